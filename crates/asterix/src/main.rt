@@ -10,7 +10,7 @@ use crate::own_lines::own_lines;
 use crate::tied::{Shared, TiedReader, TiedReport, TiedWriter, close_shared, share};
 use ax_app::{Outcome, run};
 use ax_command::write_lines;
-use ax_outside::{FolderLibrary, ReadSource, WriteSink};
+use ax_endpoints::{FolderLibrary, ReadSource, WriteSink};
 use std::alloc::Global;
 use std::env;
 use std::io::{self, BufReader, ErrorKind, Stderr, Stdin, Stdout};

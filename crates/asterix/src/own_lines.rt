@@ -1,6 +1,6 @@
 //! The length of an outcome's own lines.
 use ax_command::{Outcome, write_lines};
-use ax_outside::WriteSink;
+use ax_endpoints::WriteSink;
 use std::alloc::Global;
 
 /// How many octets the lines have that a run which ended so writes last. Where memory is wanting, fewer.

@@ -11,7 +11,7 @@ use Rattle.ax_lines.specs.Ending.{longest_line}
 use Rattle.ax_lines.specs.Runs.{LinesRun}
 use Rattle.ax_lines.specs.declared.end.LinesEnd.{LinesEnd}
 use Rattle.ax_format.specs.Specification.{SpecTree}
-use Rattle.ax_outside.specs.Changes.{SourceChange, SinkChange, GainsNothing}
+use Rattle.ax_endpoints.specs.Changes.{SourceChange, SinkChange, GainsNothing}
 use Rattle.ax_salvage.specs.Runs.{SalvageRuns}
 use Rattle.ax_salvage.specs.declared.salvaging.SalvageEnd.{SalvageEnd}
 use Rattle.ax_blocks.specs.Commands.{BlockCommand}

@@ -6,7 +6,7 @@ use Rattle.ax_app.specs.Working.{IsDoneWithAll, IsMigration, NoneRose, work_comm
 use Rattle.ax_app.specs.declared.end.DriveEnd.{DriveEnd}
 use Rattle.ax_app.specs.declared.end.DriveEnd.TheVariants.{Done, InputRefused, MigratedTooLong, InputTooLong, ReadFault, WriteFault, ReportFault}
 use Rattle.ax_format.specs.Blocks.{BlockTree, SpellsStream}
-use Rattle.ax_outside.specs.Changes.{SourceChange, SinkChange}
+use Rattle.ax_endpoints.specs.Changes.{SourceChange, SinkChange}
 use Rattle.ax_blocks.proofs.Completes.{IsDoneWithBlocks, stream_completes}
 use Rattle.ax_blocks.specs.Commands.{BlockCommand, AreGiven}
 use Rattle.ax_blocks.specs.Streams.{StreamRuns}

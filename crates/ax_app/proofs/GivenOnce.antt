@@ -8,9 +8,9 @@ use Rattle.ax_load.specs.Languages.{expansion_files}
 use Rattle.ax_load.specs.Loading.{StopsAtFile, GivesIn}
 use Rattle.ax_load.specs.declared.fault.LoadStop.{LoadStop}
 use Rattle.ax_load.specs.declared.fault.LoadStop.TheVariants.{OutOfMemory}
-use Rattle.ax_outside.specs.Changes.{LibraryCounts}
-use Rattle.ax_outside.specs.Files.{File}
-use Rattle.ax_outside.specs.Told.{Rose}
+use Rattle.ax_endpoints.specs.Changes.{LibraryCounts}
+use Rattle.ax_endpoints.specs.Files.{File}
+use Rattle.ax_endpoints.specs.Told.{Rose}
 use Rattle.ax_words.specs.declared.line.Line.{Line}
 use Rattle.ax_app.specs.Given.{Given, GivesExpansion, LineGives, LineEnds, in_specs, in_expansion, files_of, takes_distinct, expansion_of}
 

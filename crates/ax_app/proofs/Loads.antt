@@ -24,8 +24,8 @@ use Rattle.ax_format.specs.Specification.{SpecTree}
 use Rattle.ax_load.specs.Counting.{TookFiles, TookThrough, UnlessLoadFault}
 use Rattle.ax_load.specs.declared.fault.LoadStop.{LoadStop}
 use Rattle.ax_load.specs.declared.fault.LoadStop.TheVariants as LoadStopOf
-use Rattle.ax_outside.specs.Changes.{LibraryCounts, SourceChange, SinkChange, IsUnasked}
-use Rattle.ax_outside.specs.Files.{File}
+use Rattle.ax_endpoints.specs.Changes.{LibraryCounts, SourceChange, SinkChange, IsUnasked}
+use Rattle.ax_endpoints.specs.Files.{File}
 use Rattle.ax_salvage.specs.Runs as Salvages
 use Rattle.ax_salvage.specs.declared.salvaging.SalvageEnd.{SalvageEnd}
 use Rattle.ax_salvage.specs.declared.salvaging.SalvageEnd.TheVariants as SalvageEndOf

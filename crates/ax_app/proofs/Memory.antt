@@ -8,7 +8,7 @@ use Rattle.ax_app.specs.Ends.{as_stream}
 use Rattle.ax_app.specs.Gateway.{WantsMemory}
 use Rattle.ax_app.specs.declared.end.DriveEnd.{DriveEnd}
 use Rattle.ax_app.specs.declared.end.DriveEnd.TheVariants as EndOf
-use Rattle.ax_outside.specs.Changes.{IsUntouched, GainsNothing}
+use Rattle.ax_endpoints.specs.Changes.{IsUntouched, GainsNothing}
 use Rattle.ax_salvage.specs.declared.salvaging.SalvageEnd.{SalvageEnd}
 use Rattle.ax_salvage.specs.declared.salvaging.SalvageEnd.TheVariants as SalvageEndOf
 use Rattle.ax_words.specs.Words.{HasShape}

@@ -5,7 +5,7 @@ use Rattle.ax_command.specs.declared.outcome.JobStop.{JobStop}
 use Rattle.ax_command.specs.declared.outcome.Outcome.{Outcome}
 use Rattle.ax_command.specs.declared.outcome.Outcome.TheVariants.{Usage, OutOfMemory}
 use Rattle.ax_load.specs.declared.fault.LoadStop.{LoadStop}
-use Rattle.ax_outside.specs.Changes.{IsUnasked}
+use Rattle.ax_endpoints.specs.Changes.{IsUnasked}
 use Rattle.ax_blocks.specs.Streams.{IsIdle}
 use Rattle.ax_words.specs.Words.{HasNoShape}
 use Rattle.ax_words.specs.declared.line.Line.{Line}

@@ -12,7 +12,7 @@ use Rattle.ax_load.specs.Loading.{EachGives}
 use Rattle.ax_migrate.specs.Commands.{migrate_command}
 use Rattle.ax_format.specs.Flaws.{NoFlaw}
 use Rattle.ax_format.specs.Specification.{SpecTree}
-use Rattle.ax_outside.specs.Files.{File}
+use Rattle.ax_endpoints.specs.Files.{File}
 use Rattle.ax_text.specs.Names.{IsNamed}
 use Rattle.ax_app.proofs.FileNesting.{spec_named}
 use Rattle.ax_blocks.specs.Commands.{BlockCommand}

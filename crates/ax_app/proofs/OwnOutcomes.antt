@@ -17,8 +17,8 @@ use Rattle.ax_load.specs.declared.fault.LoadStop.TheVariants as LoadStopOf
 use Rattle.ax_migrate.specs.Commands.{migrate_command}
 use Rattle.ax_format.specs.Blocks.{BlockTree, read_block, opaque_block}
 use Rattle.ax_format.specs.Specification.{SpecTree}
-use Rattle.ax_outside.specs.Changes.{LibraryCounts, SourceChange, SinkChange}
-use Rattle.ax_outside.specs.Files.{File}
+use Rattle.ax_endpoints.specs.Changes.{LibraryCounts, SourceChange, SinkChange}
+use Rattle.ax_endpoints.specs.Files.{File}
 use Rattle.ax_salvage.specs.declared.salvaging.SalvageEnd.{SalvageEnd}
 use Rattle.ax_salvage.specs.declared.salvaging.SalvageEnd.TheVariants as SalvageEndOf
 use Rattle.ax_blocks.specs.Commands.{BlockCommand, gives, too_long}

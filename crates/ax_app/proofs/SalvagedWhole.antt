@@ -7,8 +7,8 @@ use Rattle.ax_format.proofs.StreamsApart.{found_in}
 use Rattle.ax_format.specs.Flaws.{NoFlaw}
 use Rattle.ax_format.specs.Framing.{RawTree, Framed, whole}
 use Rattle.ax_format.specs.Specification.{SpecTree}
-use Rattle.ax_outside.specs.Changes.{SourceChange, SinkChange}
-use Rattle.ax_outside.specs.Told.{Rose, with_end}
+use Rattle.ax_endpoints.specs.Changes.{SourceChange, SinkChange}
+use Rattle.ax_endpoints.specs.Told.{Rose, with_end}
 use Rattle.ax_salvage.proofs.Blocks.{all_judged, raws_of_judged}
 use Rattle.ax_salvage.proofs.OneSalvage.{salvaged_once}
 use Rattle.ax_salvage.specs.Runs.{IsCaused, SalvageAnswers, SalvageRuns, SalvageStops, reading, writing, reporting, tallying}

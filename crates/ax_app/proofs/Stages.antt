@@ -26,11 +26,11 @@ use Rattle.ax_load.specs.declared.fault.LoadStop.TheVariants as LoadStopOf
 use Rattle.ax_load.specs.declared.fault.SpecFault.{SpecFault}
 use Rattle.ax_load.specs.declared.fault.SpecFault.TheVariants.{TooLarge, BadByte, TooDeep, BadToken, Flawed}
 use Rattle.ax_format.specs.Specification.{SpecTree}
-use Rattle.ax_outside.proofs.Ends.{with_end-nil, Rose-later}
-use Rattle.ax_outside.specs.Changes.{none_counted, LibraryCounts, SourceChange, SinkChange, IsUntouched, GainsNothing, Wrote}
-use Rattle.ax_outside.specs.Files.{File}
-use Rattle.ax_outside.specs.Told.{Rose, with_end}
-use Rattle.ax_outside.specs.declared.sinks.SinkFailed.{SinkFailed}
+use Rattle.ax_endpoints.proofs.Ends.{with_end-nil, Rose-later}
+use Rattle.ax_endpoints.specs.Changes.{none_counted, LibraryCounts, SourceChange, SinkChange, IsUntouched, GainsNothing, Wrote}
+use Rattle.ax_endpoints.specs.Files.{File}
+use Rattle.ax_endpoints.specs.Told.{Rose, with_end}
+use Rattle.ax_endpoints.specs.declared.sinks.SinkFailed.{SinkFailed}
 use Rattle.ax_format.specs.Blocks.{BlockTree}
 use Rattle.ax_salvage.specs.Runs.{SalvageAnswers, SalvageStops}
 use Rattle.ax_salvage.specs.declared.salvaging.SalvageEnd.{SalvageEnd}

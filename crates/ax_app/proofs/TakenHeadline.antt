@@ -2,10 +2,10 @@
 use Rattle.std.proofs.Common.{◌≡◌, ℕ, ◌+◌, List, [], Option, Some, None, length, refl, sym, ◌∙◌, subst, arith}
 use Rattle.ax_command.specs.Outcomes.{outcome_of_job_stop}
 use Rattle.ax_command.specs.declared.outcome.Outcome.{Outcome}
-use Rattle.ax_outside.proofs.Ends.{with_end-nil}
-use Rattle.ax_outside.specs.Changes.{LibraryCounts, SourceChange, SinkChange, IsUntouched}
-use Rattle.ax_outside.specs.Files.{File}
-use Rattle.ax_outside.specs.Told.{with_front}
+use Rattle.ax_endpoints.proofs.Ends.{with_end-nil}
+use Rattle.ax_endpoints.specs.Changes.{LibraryCounts, SourceChange, SinkChange, IsUntouched}
+use Rattle.ax_endpoints.specs.Files.{File}
+use Rattle.ax_endpoints.specs.Told.{with_front}
 use Rattle.ax_blocks.specs.Streams.{IsIdle}
 use Rattle.ax_app.proofs.Stages.{text_headline, blocks_headline, lines_headline, salvage_headline, before_headline, files_headline, at_files_of}
 use Rattle.ax_app.specs.Answer.{by_words}

@@ -4,7 +4,7 @@ use Rattle.ax_command.specs.declared.outcome.Outcome.{Outcome}
 use Rattle.ax_format.specs.Plain.{spec_tree, catalogue_tree}
 use Rattle.ax_format.specs.Specification.{SpecTree}
 use Rattle.ax_format.specs.declared.spec.Spec.{Spec}
-use Rattle.ax_outside.specs.Changes.{SinkChange}
+use Rattle.ax_endpoints.specs.Changes.{SinkChange}
 use Rattle.ax_trial.specs.Trial.{IsTrial}
 use Rattle.ax_app.proofs.Checks.{at_first}
 use Rattle.ax_app.specs.Jobs.{TextEnds, EndsTrial, IsReadyToTry}

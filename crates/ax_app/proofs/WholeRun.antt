@@ -2,9 +2,9 @@
 use Rattle.std.proofs.Common.{ℕ, List, Option, Result}
 use Rattle.ax_command.specs.Lines.{lines_of}
 use Rattle.ax_command.specs.declared.outcome.Outcome.{Outcome}
-use Rattle.ax_outside.specs.Changes.{LibraryCounts, SourceChange, SinkChange, Wrote}
-use Rattle.ax_outside.specs.Files.{File}
-use Rattle.ax_outside.specs.declared.sinks.SinkFailed.{SinkFailed}
+use Rattle.ax_endpoints.specs.Changes.{LibraryCounts, SourceChange, SinkChange, Wrote}
+use Rattle.ax_endpoints.specs.Files.{File}
+use Rattle.ax_endpoints.specs.declared.sinks.SinkFailed.{SinkFailed}
 use Rattle.ax_app.proofs.Causing.{causes}
 use Rattle.ax_app.proofs.Loads.{counted}
 use Rattle.ax_app.proofs.OwnOutcomes.{of_its_command, later_on}

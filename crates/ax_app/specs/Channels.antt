@@ -1,8 +1,8 @@
 -- What is told and counted of the source of a command's input and of the sinks of its output and its report, before and after.
 use Rattle.std.specs.Borrow.{MutBor}
-use Rattle.ax_outside.specs.Changes.{SourceChange, SinkChange, source_change, sink_change}
-use Rattle.ax_outside.specs.declared.sinks.Sink as SinkOf
-use Rattle.ax_outside.specs.declared.sources.Source as SourceOf
+use Rattle.ax_endpoints.specs.Changes.{SourceChange, SinkChange, source_change, sink_change}
+use Rattle.ax_endpoints.specs.declared.sinks.Sink as SinkOf
+use Rattle.ax_endpoints.specs.declared.sources.Source as SourceOf
 use Rattle.ax_app.specs.declared.channels.Channels.{Channels}
 
 pub record Changes : Type 0 where

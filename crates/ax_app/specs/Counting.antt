@@ -5,8 +5,8 @@ use Rattle.ax_command.specs.declared.outcome.Outcome.TheVariants as OutcomeOf
 use Rattle.ax_load.specs.Counting.{TookFiles, TookThrough}
 use Rattle.ax_load.specs.declared.fault.LoadStop.{LoadStop}
 use Rattle.ax_load.specs.declared.fault.LoadStop.TheVariants.{LoadFault}
-use Rattle.ax_outside.specs.Changes.{LibraryCounts, SourceChange, SinkChange, IsUnasked}
-use Rattle.ax_outside.specs.Files.{File}
+use Rattle.ax_endpoints.specs.Changes.{LibraryCounts, SourceChange, SinkChange, IsUnasked}
+use Rattle.ax_endpoints.specs.Files.{File}
 use Rattle.ax_words.specs.declared.line.Line.{Line}
 use Rattle.ax_app.specs.Given.{all_files_of}
 

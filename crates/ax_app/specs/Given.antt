@@ -5,8 +5,8 @@ use Rattle.ax_load.specs.Languages.{expansion_files}
 use Rattle.ax_load.specs.Loading.{FilesGive, FilesEnd, GivesIn, StopsAtFile}
 use Rattle.ax_load.specs.declared.fault.LoadStop.{LoadStop}
 use Rattle.ax_format.specs.Specification.{SpecTree}
-use Rattle.ax_outside.specs.Changes.{LibraryCounts}
-use Rattle.ax_outside.specs.Files.{File}
+use Rattle.ax_endpoints.specs.Changes.{LibraryCounts}
+use Rattle.ax_endpoints.specs.Files.{File}
 use Rattle.ax_words.specs.declared.line.Line.{Line}
 use Rattle.ax_words.specs.declared.line.Line.TheVariants.{Check, Canon, Show, Text, Build, Filter, Migrate, Trial, Salvage, Expand, Convert, Help, Version}
 

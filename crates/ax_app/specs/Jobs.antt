@@ -27,7 +27,7 @@ use Rattle.ax_lines.specs.declared.end.LinesEnd.{LinesEnd}
 use Rattle.ax_migrate.specs.Commands.{migrate_command}
 use Rattle.ax_format.specs.Blocks.{BlockTree}
 use Rattle.ax_format.specs.Specification.{SpecTree}
-use Rattle.ax_outside.specs.Changes.{SourceChange, SinkChange, IsUntouched, Gains, GainsNothing, GainsPart}
+use Rattle.ax_endpoints.specs.Changes.{SourceChange, SinkChange, IsUntouched, Gains, GainsNothing, GainsPart}
 use Rattle.ax_salvage.specs.Runs.{SalvageRuns}
 use Rattle.ax_salvage.specs.Salvaged.{Salvaged}
 use Rattle.ax_salvage.specs.declared.salvaging.SalvageEnd.{SalvageEnd}

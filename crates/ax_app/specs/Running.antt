@@ -5,9 +5,9 @@ use Rattle.ax_command.specs.declared.outcome.JobStop.{JobStop}
 use Rattle.ax_command.specs.declared.outcome.Outcome.{Outcome}
 use Rattle.ax_command.specs.declared.outcome.Outcome.TheVariants.{Usage, OtherCategory, ExpansionUnused, FilterRefused, TextRefused, MigratedTooLong, ReadFault, WriteFault, ReportFault, InputTooLong, OutOfMemory}
 use Rattle.ax_load.specs.declared.fault.LoadStop.{LoadStop}
-use Rattle.ax_outside.specs.Changes.{LibraryCounts, SourceChange, SinkChange, IsUntouched, IsUnasked, first_step, second_step, Gains, GainsNothing, GainsPart}
-use Rattle.ax_outside.specs.Files.{File}
-use Rattle.ax_outside.specs.Told.{Rose}
+use Rattle.ax_endpoints.specs.Changes.{LibraryCounts, SourceChange, SinkChange, IsUntouched, IsUnasked, first_step, second_step, Gains, GainsNothing, GainsPart}
+use Rattle.ax_endpoints.specs.Files.{File}
+use Rattle.ax_endpoints.specs.Told.{Rose}
 use Rattle.ax_blocks.specs.Ending.{longest_input}
 use Rattle.ax_blocks.specs.Streams.{IsIdle}
 use Rattle.ax_words.specs.Words.{HasShape, HasNoShape}

@@ -16,8 +16,8 @@ use Rattle.ax_migrate_views.specs.Blocks.{new_tree, old_tree}
 use Rattle.ax_migrate.specs.Commands.{migrate_command}
 use Rattle.ax_format.specs.Blocks.{BlockTree, SpellsStream}
 use Rattle.ax_format.specs.Plain.{catalogue_tree}
-use Rattle.ax_outside.specs.Changes.{SourceChange, SinkChange, Gains}
-use Rattle.ax_outside.specs.Told.{Rose}
+use Rattle.ax_endpoints.specs.Changes.{SourceChange, SinkChange, Gains}
+use Rattle.ax_endpoints.specs.Told.{Rose}
 use Rattle.ax_blocks.specs.BlockCommands.{canon_command}
 use Rattle.ax_blocks.specs.Commands.{BlockCommand, AreGiven, output_of, report_of}
 use Rattle.ax_blocks.specs.Streams.{StreamRuns}

@@ -1,5 +1,5 @@
 //! What a command reads from and writes to.
-use ax_outside::{Sink, Source};
+use ax_endpoints::{Sink, Source};
 
 /// The source of a command's input and the sinks of its output and its report, lent to it.
 #[derive(Drop)]

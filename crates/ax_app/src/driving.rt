@@ -8,7 +8,7 @@ use crate::channels::Channels;
 use crate::end::{DriveEnd, end_of};
 use crate::work::{BlocksWork, Work};
 use ax_blocks::{BlockReader, BlockWork};
-use ax_outside::{Sink, Source};
+use ax_endpoints::{Sink, Source};
 
 /// The loop over a work that takes no memory.
 fn drive_blocks<W: BlockWork, S: Source, K: Sink, R: Sink>(

@@ -10,7 +10,7 @@ use crate::outcomes::outcome_of;
 use crate::work::Work;
 use ax_blocks::{BlockWork, run_blocks};
 use ax_command::{JobStop, Outcome};
-use ax_outside::{LONGEST_INPUT, Sink, Source};
+use ax_endpoints::{LONGEST_INPUT, Sink, Source};
 use std::alloc::Global;
 
 /// Does a work on each block of the input, that may take memory for each.

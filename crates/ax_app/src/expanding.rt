@@ -12,7 +12,7 @@ use ax_check::Accepted;
 use ax_command::{JobStop, Outcome, Refusal};
 use ax_expand::AcceptedExpansion;
 use ax_expand_work::{ExpandViews, re_slot};
-use ax_outside::{Sink, Source};
+use ax_endpoints::{Sink, Source};
 use ax_tables::compile;
 use std::alloc::Global;
 

@@ -10,7 +10,7 @@ use crate::channels::Channels;
 use crate::jobs::do_job;
 use crate::loading::{Loaded, load};
 use ax_command::{Outcome, write_lines};
-use ax_outside::{Library, Sink, Source};
+use ax_endpoints::{Library, Sink, Source};
 use ax_words::{Line, WordsError, read_words};
 use std::alloc::Global;
 

@@ -3,12 +3,12 @@ ghost use Rattle.std.specs.Prelude.{◌≡◌, ◌≤◌, ◌<◌, IsTrue, lengt
 ghost use Rattle.ax_app.specs.Counting.{LoadsAll, LoadsThrough};
 ghost use Rattle.ax_app.specs.Given.{files_of, takes_distinct, LineGives, LineEnds};
 ghost use Rattle.ax_app.specs.Loaded.{given_of, IsLoadedFor};
-ghost use Rattle.ax_outside.specs.Changes.{library_counts};
+ghost use Rattle.ax_endpoints.specs.Changes.{library_counts};
 
 use ax_check::{Accepted, Catalogue};
 use ax_expand::AcceptedExpansion;
 use ax_load::{LoadStop, load_catalogue, load_two, load_with_expansion};
-use ax_outside::Library;
+use ax_endpoints::Library;
 use ax_words::{Line, WordText};
 use std::alloc::Global;
 use std::slice;

@@ -6,8 +6,8 @@ use Rattle.ax_format.proofs.InputSteps.{ends_well}
 use Rattle.ax_format.specs.Blocks.{BlockTree, SpellsStream}
 use Rattle.ax_format.specs.Ends.{Ends, by_framing}
 use Rattle.ax_format.specs.Framing.{whole}
-use Rattle.ax_outside.specs.Changes.{SourceChange, SinkChange, Gains}
-use Rattle.ax_outside.specs.Told.{Rose, with_end}
+use Rattle.ax_endpoints.specs.Changes.{SourceChange, SinkChange, Gains}
+use Rattle.ax_endpoints.specs.Told.{Rose, with_end}
 use Rattle.ax_blocks.proofs.Prefixes.{prefix_given}
 use Rattle.ax_blocks.specs.Commands.{BlockCommand, IsGiven, AreGiven, output_of, report_of}
 use Rattle.ax_blocks.specs.Ending.{stream_end}

@@ -12,8 +12,8 @@ use Rattle.ax_format.specs.Framing.{RawTree, input_too_long, ends_in_block, len_
 use Rattle.ax_format.proofs.Framings.{just_next}
 use Rattle.ax_blocks.specs.declared.reader.Ended.{Ended}
 use Rattle.ax_format.specs.declared.record.RawBlock.{RawBlock}
-use Rattle.ax_outside.specs.Told.{with_front, IsAtEnd}
-use Rattle.ax_outside.proofs.Ends.{with_front-append}
+use Rattle.ax_endpoints.specs.Told.{with_front, IsAtEnd}
+use Rattle.ax_endpoints.proofs.Ends.{with_front-append}
 
 -- ---- octets in front of what is left
 

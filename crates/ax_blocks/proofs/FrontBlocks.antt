@@ -11,10 +11,10 @@ use Rattle.ax_format.specs.Ends.{RawSpells, RawsSpell, RawFails, Ends, by_framin
 use Rattle.ax_format.specs.Framing.{RawTree, AreRaws, FramingEnd, FramingEnds, whole, bad_len, ends_in_header, ends_in_block, input_too_long, IsJustNext, end}
 use Rattle.ax_format.specs.declared.fault.BodyCause.{BodyCause}
 use Rattle.ax_format.specs.declared.record.RawBlock.{RawBlock}
-use Rattle.ax_outside.specs.Changes.{SinkChange, Gains}
-use Rattle.ax_outside.specs.Told.{with_front, with_end, IsAtEnd}
+use Rattle.ax_endpoints.specs.Changes.{SinkChange, Gains}
+use Rattle.ax_endpoints.specs.Told.{with_front, with_end, IsAtEnd}
 use Rattle.ax_blocks.proofs.Results.{output_snoc, report_snoc, given_snoc}
-use Rattle.ax_outside.proofs.Gains.{both, gains_both, gains_on, gains_part}
+use Rattle.ax_endpoints.proofs.Gains.{both, gains_both, gains_on, gains_part}
 use Rattle.ax_blocks.proofs.Streams.{raws_snoc, spell_snoc, spell_count, stream_snoc, length_snoc, framed_count, raw_spells_block, octets_after}
 use Rattle.ax_blocks.specs.Commands.{BlockCommand, gives, lines_in, octets_in, report_of, output_of, IsGiven}
 use Rattle.ax_blocks.specs.Remembering.{RemembersAll}

@@ -5,7 +5,7 @@ use Rattle.ax_format.specs.CanonicalOctets.{framed}
 use Rattle.ax_format.specs.Framing.{RawTree}
 use Rattle.ax_format.specs.Specification.{SpecTree, spec_of}
 use Rattle.ax_format.specs.declared.fault.BodyFault.{BodyFault}
-use Rattle.ax_outside.specs.Changes.{SinkChange}
+use Rattle.ax_endpoints.specs.Changes.{SinkChange}
 use Rattle.ax_blocks.proofs.BlockSteps.{short_fault}
 use Rattle.ax_blocks.proofs.OpaqueBlocks.{raw_framed}
 use Rattle.ax_blocks.proofs.Taken.{takes_silently, takes_fault, takes_nothing}

@@ -7,7 +7,7 @@ use borrow.Rule.Slice.PartMut.{put_mid, post_of}
 use Rattle.ax_bits.specs.Bits.{AreOctets}
 use Rattle.ax_bits.proofs.Pieces.{AreOctets-items}
 use Rattle.ax_blocks.specs.Taking.{Took, PartTaken, PartPastRoom, PartCut}
-use Rattle.ax_outside.specs.Told.{with_front, IsAtEnd}
+use Rattle.ax_endpoints.specs.Told.{with_front, IsAtEnd}
 
 -- the first n octets of the part stand after those buffered
 stands_following : (buffer part : List ℕ) (buffered k n : ℕ) → buffered ≤ length buffer → n ≤ length part → take (buffered + n) (put_mid buffered k buffer part) ≡ take buffered buffer ++ take n part

@@ -10,10 +10,10 @@ use Rattle.ax_format.specs.Framing.{RawTree, FramingEnd, whole}
 use Rattle.ax_format.specs.declared.fault.BodyCause.{BodyCause}
 use Rattle.ax_format.specs.declared.fault.BodyCause.TheVariants as Body
 use Rattle.ax_format.specs.declared.record.RawBlock.{RawBlock}
-use Rattle.ax_outside.proofs.Ends.{Rose-later}
-use Rattle.ax_outside.specs.Changes.{SourceChange, SinkChange}
-use Rattle.ax_outside.specs.Told.{Rose}
-use Rattle.ax_outside.proofs.Gains.{both, gains_none}
+use Rattle.ax_endpoints.proofs.Ends.{Rose-later}
+use Rattle.ax_endpoints.specs.Changes.{SourceChange, SinkChange}
+use Rattle.ax_endpoints.specs.Told.{Rose}
+use Rattle.ax_endpoints.proofs.Gains.{both, gains_none}
 use Rattle.ax_blocks.proofs.Streams.{framed_count}
 use Rattle.ax_blocks.specs.Commands.{BlockCommand}
 use Rattle.ax_blocks.specs.Ending.{cause_of, error_end, stop_end}

@@ -4,9 +4,9 @@ use Rattle.ax_format.specs.Blocks.{BlockTree}
 use Rattle.ax_format.specs.Ends.{RawSpells, RawFails}
 use Rattle.ax_format.specs.Framing.{RawTree}
 use Rattle.ax_format.specs.declared.fault.BodyFault.{BodyFault}
-use Rattle.ax_outside.proofs.Pieces.{change, nothing_written as unwritten}
-use Rattle.ax_outside.specs.Changes.{SinkChange, Wrote}
-use Rattle.ax_outside.specs.declared.sinks.SinkFailed.{SinkFailed}
+use Rattle.ax_endpoints.proofs.Pieces.{change, nothing_written as unwritten}
+use Rattle.ax_endpoints.specs.Changes.{SinkChange, Wrote}
+use Rattle.ax_endpoints.specs.declared.sinks.SinkFailed.{SinkFailed}
 use Rattle.ax_blocks.specs.Commands.{BlockCommand, too_long}
 use Rattle.ax_blocks.specs.BlockTaking.{GivesFor, Takes, WritesOctets}
 use Rattle.ax_blocks.specs.declared.work.WorkStop.{WorkStop}

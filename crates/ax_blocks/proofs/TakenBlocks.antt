@@ -7,8 +7,8 @@ use Rattle.ax_blocks.specs.declared.next_error.NextError.{NextError}
 use Rattle.ax_blocks.specs.declared.next_error.NextError.TheVariants.{BadLen, EndsInHeader, EndsInBlock, InputTooLong, ReadFault}
 use Rattle.ax_format.specs.Framing.{RawTree, FramingEnd, whole, bad_len, ends_in_header, ends_in_block, input_too_long}
 use Rattle.ax_format.specs.declared.record.RawBlock.{RawBlock}
-use Rattle.ax_outside.specs.Changes.{SourceChange, SinkChange, Gains}
-use Rattle.ax_outside.proofs.Gains.{both}
+use Rattle.ax_endpoints.specs.Changes.{SourceChange, SinkChange, Gains}
+use Rattle.ax_endpoints.proofs.Gains.{both}
 use Rattle.ax_blocks.specs.Commands.{BlockCommand}
 use Rattle.ax_blocks.specs.Ending.{framing_end, error_end, stop_end}
 use Rattle.ax_blocks.specs.Streams.{RunsOver}

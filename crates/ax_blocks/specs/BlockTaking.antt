@@ -4,7 +4,7 @@ use Rattle.ax_format.specs.Blocks.{BlockTree}
 use Rattle.ax_format.specs.Ends.{RawSpells, RawFails}
 use Rattle.ax_format.specs.Framing.{RawTree}
 use Rattle.ax_format.specs.declared.fault.BodyCause.{BodyCause}
-use Rattle.ax_outside.specs.Changes.{SinkChange, Gains, GainsNothing, GainsPart}
+use Rattle.ax_endpoints.specs.Changes.{SinkChange, Gains, GainsNothing, GainsPart}
 use Rattle.ax_blocks.specs.Commands.{BlockCommand, gives, too_long}
 use Rattle.ax_blocks.specs.declared.work.WorkStop.{WorkStop}
 use Rattle.ax_blocks.specs.declared.work.WorkStop.TheVariants.{Fault, TooLong, WriteFault, ReportFault, OutOfMemory}

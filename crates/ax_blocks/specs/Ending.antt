@@ -4,7 +4,7 @@ use Rattle.ax_format.specs.Ends.{InputEnd, by_framing, by_body}
 use Rattle.ax_format.specs.Framing.{FramingEnd, whole, input_too_long, ends_in_header, bad_len, ends_in_block}
 use Rattle.ax_format.specs.declared.fault.BodyCause.{BodyCause}
 use Rattle.ax_format.specs.declared.fault.BodyCause.TheVariants as Body
-use Rattle.ax_outside.specs.Limits as Limits
+use Rattle.ax_endpoints.specs.Limits as Limits
 use Rattle.ax_blocks.specs.declared.end.Cause.{Cause}
 use Rattle.ax_blocks.specs.declared.end.Cause.TheVariants.{EndsInHeader, BadLen, EndsInBlock, RunsOut, UndefinedSlot, PresenceTooLong, ExtensionPastEnd, BadExplicitLength}
 use Rattle.ax_blocks.specs.declared.next_error.NextError.{NextError}

@@ -8,7 +8,7 @@ use Rattle.ax_blocks.specs.declared.reader.Ended.TheVariants.{EndOfInput, Refuse
 use Rattle.ax_format.specs.Blocks.{IsFramed}
 use Rattle.ax_format.specs.Framing.{RawTree, FramingEnd, whole, input_too_long, ends_in_header, bad_len, ends_in_block, len_of, block, end, IsJustNext}
 use Rattle.ax_format.specs.declared.record.RawBlock.{RawBlock}
-use Rattle.ax_outside.specs.Told.{IsAtEnd}
+use Rattle.ax_endpoints.specs.Told.{IsAtEnd}
 
 -- a reader: the limit on its input, the count of octets of the blocks that it gave, and what it answers from now on, once
 -- it has ended or refused

@@ -7,8 +7,8 @@ use Rattle.ax_blocks.specs.Taking.{Took, IsUnfinished}
 use Rattle.ax_format.specs.Blocks.{BlockTree, IsFramed, SpellsBlock, SpellsStream}
 use Rattle.ax_format.specs.Ends.{Ends, InputEnd, RawFails}
 use Rattle.ax_format.specs.Framing.{RawTree, FramingEnd}
-use Rattle.ax_outside.specs.Changes.{SourceChange, SinkChange, IsUntouched, Gains, GainsNothing, GainsWithPart}
-use Rattle.ax_outside.specs.Told.{Rose}
+use Rattle.ax_endpoints.specs.Changes.{SourceChange, SinkChange, IsUntouched, Gains, GainsNothing, GainsWithPart}
+use Rattle.ax_endpoints.specs.Told.{Rose}
 use Rattle.ax_blocks.specs.Commands.{BlockCommand, gives, too_long, report_of, output_of, AreGiven}
 use Rattle.ax_format.specs.declared.fault.BodyCause.{BodyCause}
 use Rattle.ax_format.specs.declared.fault.BodyCause.TheVariants as Body

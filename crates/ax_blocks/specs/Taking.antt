@@ -4,7 +4,7 @@ use Rattle.ax_bits.specs.Bits.{AreOctets}
 use Rattle.ax_blocks.specs.declared.next_error.NextError.{NextError}
 use Rattle.ax_blocks.specs.declared.next_error.NextError.TheVariants.{InputTooLong, ReadFault}
 use Rattle.ax_format.specs.Framing.{len_of}
-use Rattle.ax_outside.specs.Told.{with_front, IsAtEnd}
+use Rattle.ax_endpoints.specs.Told.{with_front, IsAtEnd}
 
 -- these octets were taken: they stood in front of what is left now, where that is told, and the number of octets taken rose
 -- by their count

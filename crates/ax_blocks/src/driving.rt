@@ -1,7 +1,7 @@
 //! The loop over the blocks of an input, for every block command.
 ghost use Rattle.std.specs.Prelude.{◌≡◌, ℕ, List, [], None, Some, IsTrue};
 ghost use Rattle.ax_bits.specs.Bits.{AreOctets};
-ghost use Rattle.ax_outside.specs.Changes.{source_change, sink_change};
+ghost use Rattle.ax_endpoints.specs.Changes.{source_change, sink_change};
 ghost use Rattle.ax_blocks.specs.Remembering.{RemembersAll};
 ghost use Rattle.ax_blocks.specs.Streams.{StreamRuns, RunsOver};
 ghost use Rattle.ax_blocks.specs.declared.end.StreamEnd.TheVariants.{Done, OutOfMemory};
@@ -9,7 +9,7 @@ ghost use Rattle.ax_blocks.specs.declared.end.StreamEnd.TheVariants.{Done, OutOf
 use crate::end::{StreamEnd, reader_end, work_end};
 use crate::reader::BlockReader;
 use crate::work::BlockWork;
-use ax_outside::{Sink, Source};
+use ax_endpoints::{Sink, Source};
 
 /// Reads the input to its end, block by block: each is judged as a whole, then its lines are written on the report, then
 /// its octets on the output. It takes no memory but the work's.

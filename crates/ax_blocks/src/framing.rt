@@ -5,11 +5,11 @@ ghost use Rattle.ax_blocks.specs.Taking.{PartMeans, OnPartFault, UnlessReadFault
 ghost use Rattle.ax_format.specs.Blocks.{IsFramed};
 ghost use Rattle.ax_format.specs.Framing.{len_of};
 ghost use Rattle.ax_format.specs.Sizes.{longest_block};
-ghost use Rattle.ax_outside.specs.Told.{Rose};
+ghost use Rattle.ax_endpoints.specs.Told.{Rose};
 
 use crate::next_error::NextError;
 use ax_format::RawBlock;
-use ax_outside::{Source, fill};
+use ax_endpoints::{Source, fill};
 
 /// The octets of CAT and LEN.
 const HEADER: usize = 3;

@@ -1,11 +1,11 @@
 //! The line of the report for a fault of the input. It is written in pieces and takes no memory.
 ghost use Rattle.std.specs.Prelude.{◌≡◌, ◌++◌, codes};
-ghost use Rattle.ax_outside.specs.Changes.{Wrote, sink_change};
+ghost use Rattle.ax_endpoints.specs.Changes.{Wrote, sink_change};
 ghost use Rattle.ax_report.specs.Lines.{numbered};
 ghost use Rattle.ax_blocks.specs.Lines.{cause_name, fault_line};
 
 use crate::end::{Cause, InputFault};
-use ax_outside::{Sink, SinkFailed};
+use ax_endpoints::{Sink, SinkFailed};
 use ax_report::{write_numbered, write_three};
 
 fn cause_text(cause: Cause) -> &'static [u8]
@@ -31,7 +31,7 @@ fn write_cause<K: Sink>(sink: &mut K, cause: Cause) -> Result<(), SinkFailed>
 }
 
 /// Writes the bit and the cause of a fault, up to the end of its line.
-#[tactic(auto, using(ax_outside::proofs::Pieces::pieces))]
+#[tactic(auto, using(ax_endpoints::proofs::Pieces::pieces))]
 fn write_fault_end<K: Sink>(sink: &mut K, fault: InputFault) -> Result<(), SinkFailed>
     ensures { Wrote (sink_change K.Sink sink.old sink.new) result (numbered (codes " bit ") fault.bit ++ (codes " " ++ (cause_name fault.cause ++ codes "\n"))) }
 {
@@ -41,7 +41,7 @@ fn write_fault_end<K: Sink>(sink: &mut K, fault: InputFault) -> Result<(), SinkF
 
 /// Writes the line `refused block N bit K CAUSE` of a fault of the input, up to its line feed. At `SinkFailed` a prefix of it
 /// was added, not all of it, and the sink counted a fault.
-#[tactic(auto, using(ax_outside::proofs::Pieces::pieces))]
+#[tactic(auto, using(ax_endpoints::proofs::Pieces::pieces))]
 pub fn write_fault_line<K: Sink>(sink: &mut K, fault: InputFault) -> Result<(), SinkFailed>
     ensures { Wrote (sink_change K.Sink sink.old sink.new) result (fault_line fault) }
 {

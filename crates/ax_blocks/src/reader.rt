@@ -6,7 +6,7 @@ use crate::framing::{next_length, raw_block};
 use crate::next_error::NextError;
 use ax_format::RawBlock;
 use ax_lists::zeros;
-use ax_outside::Source;
+use ax_endpoints::Source;
 use std::alloc::{AllocError, Global};
 use std::marker::Model;
 
@@ -44,7 +44,7 @@ impl BlockReader {
     ghost use Rattle.std.specs.Io.BufRead.{Rests};
     ghost use Rattle.ax_blocks.specs.Reader.{IsAfter, IsOpen, raw_tree, ended_by, OnBlock, OnEnd, OnTooLong, OnReadFault, GivesBlock, FindsEnd, StopsUnfinished};
     ghost use Rattle.ax_blocks.specs.Taking.{UnlessReadFault};
-    ghost use Rattle.ax_outside.specs.Told.{Rose};
+    ghost use Rattle.ax_endpoints.specs.Told.{Rose};
     ghost use Rattle.ax_blocks.specs.contracts.reader.BlockReader.{the_row};
 
     /// A reader of an input of at most `limit` octets, which has taken nothing and keeps no answer. The room for the

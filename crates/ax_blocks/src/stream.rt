@@ -1,6 +1,6 @@
 //! A block command over a stream.
 ghost use Rattle.std.specs.Prelude.{◌≡◌, ◌⊎◌, IsTrue};
-ghost use Rattle.ax_outside.specs.Changes.{source_change, sink_change};
+ghost use Rattle.ax_endpoints.specs.Changes.{source_change, sink_change};
 ghost use Rattle.ax_blocks.specs.Ending.{longest_input};
 ghost use Rattle.ax_blocks.specs.Streams.{StreamRuns, IsIdle};
 ghost use Rattle.ax_blocks.specs.declared.end.StreamEnd.TheVariants.{OutOfMemory};
@@ -9,7 +9,7 @@ use crate::driving::drive;
 use crate::end::StreamEnd;
 use crate::reader::BlockReader;
 use crate::work::BlockWork;
-use ax_outside::{LONGEST_INPUT, Sink, Source};
+use ax_endpoints::{LONGEST_INPUT, Sink, Source};
 use std::alloc::Global;
 
 /// Does the work on each block of the input. The reader's memory is taken first.

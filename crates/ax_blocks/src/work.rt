@@ -3,12 +3,12 @@ ghost use Rattle.std.specs.Prelude.{◌≡◌, List, [], ◌∷◌, ◌++◌, �
 ghost use Rattle.ax_blocks.specs.declared.work.WorkStop.TheVariants.{OutOfMemory};
 ghost use Rattle.ax_blocks.specs.Reader.{raw_tree};
 ghost use Rattle.ax_format.specs.Framing.{RawTree};
-ghost use Rattle.ax_outside.specs.Changes.{sink_change};
+ghost use Rattle.ax_endpoints.specs.Changes.{sink_change};
 ghost use Rattle.ax_blocks.specs.Commands.{BlockCommand};
 ghost use Rattle.ax_blocks.specs.BlockTaking.{Takes, WritesOctets};
 
 use ax_format::{BodyFault, RawBlock};
-use ax_outside::{Sink, write_all_of};
+use ax_endpoints::{Sink, write_all_of};
 
 /// Why a block isn't written whole.
 #[derive(Clone, Copy)]

@@ -5,7 +5,7 @@ ghost use Rattle.ax_lines.specs.Completing.{Completes};
 ghost use Rattle.ax_lines.specs.Ending.{longest_input, longest_line};
 ghost use Rattle.ax_lines.specs.Runs.{LinesRun};
 ghost use Rattle.ax_format.specs.Plain.{catalogue_tree};
-ghost use Rattle.ax_outside.specs.Changes.{sink_change, source_change};
+ghost use Rattle.ax_endpoints.specs.Changes.{sink_change, source_change};
 
 use crate::building::line_octets;
 use crate::fault::{BuildStop, TextFault};
@@ -13,7 +13,7 @@ use ax_block_reader::items_of;
 use ax_check::Catalogue;
 use ax_lines::{LineStop, LineWork, LinesEnd, run_lines};
 use ax_lists::zeros;
-use ax_outside::{Sink, Source};
+use ax_endpoints::{Sink, Source};
 use ax_text_views::{Tables, tables_of};
 use ax_uap::CatalogueItems;
 use std::alloc::Global;

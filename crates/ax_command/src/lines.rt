@@ -1,6 +1,6 @@
 //! The lines of the report for an outcome. They are written in pieces and take no memory.
 ghost use Rattle.std.specs.Prelude.{◌≡◌, ◌++◌, codes};
-ghost use Rattle.ax_outside.specs.Changes.{Wrote, sink_change};
+ghost use Rattle.ax_endpoints.specs.Changes.{Wrote, sink_change};
 ghost use Rattle.ax_format.specs.Paths.{three_digits};
 ghost use Rattle.ax_command.specs.Lines.{kind_name, flaw_line, flaw_lines, fault_lines, filter_line, text_line, lines_of};
 
@@ -10,7 +10,7 @@ use ax_build_work::TextFault;
 use ax_filter::FilterFault;
 use ax_format::{Flaw, FlawKind, Flaws, Text, category_digits};
 use ax_load::SpecFault;
-use ax_outside::{Sink, SinkFailed, write_text};
+use ax_endpoints::{Sink, SinkFailed, write_text};
 use ax_report::{write_numbered, write_numbered_text, write_three, write_two, write_two_numbers};
 
 fn kind_text(kind: FlawKind) -> &'static [u8]
@@ -48,7 +48,7 @@ fn write_path<K: Sink>(sink: &mut K, path: &Text) -> Result<(), SinkFailed>
 }
 
 /// Writes the kind and the path of a flaw, up to the end of its line.
-#[tactic(auto, using(ax_outside::proofs::Pieces::pieces))]
+#[tactic(auto, using(ax_endpoints::proofs::Pieces::pieces))]
 fn write_flaw_end<K: Sink>(sink: &mut K, flaw: &Flaw) -> Result<(), SinkFailed>
     ensures { Wrote (sink_change K.Sink sink.old sink.new) result ((codes " " ++ kind_name flaw.now.kind) ++ (codes " " ++ (flaw.now.path ++ codes "\n"))) }
 {
@@ -57,7 +57,7 @@ fn write_flaw_end<K: Sink>(sink: &mut K, flaw: &Flaw) -> Result<(), SinkFailed>
 }
 
 /// Writes the line of a flaw.
-#[tactic(auto, using(ax_outside::proofs::Pieces::pieces))]
+#[tactic(auto, using(ax_endpoints::proofs::Pieces::pieces))]
 fn write_flaw<K: Sink>(sink: &mut K, file: u32, flaw: &Flaw) -> Result<(), SinkFailed>
     ensures { Wrote (sink_change K.Sink sink.old sink.new) result (flaw_line file flaw.now) }
 {
@@ -73,7 +73,7 @@ fn write_category<K: Sink>(sink: &mut K, category: u8) -> Result<(), SinkFailed>
 }
 
 /// Writes the line of a file whose category an earlier file has.
-#[tactic(auto, using(ax_outside::proofs::Pieces::pieces))]
+#[tactic(auto, using(ax_endpoints::proofs::Pieces::pieces))]
 fn write_category_twice<K: Sink>(sink: &mut K, file: u32, category: u8) -> Result<(), SinkFailed>
     ensures { Wrote (sink_change K.Sink sink.old sink.new) result (lines_of (Outcome.CategoryTwice file category)) }
 {
@@ -201,7 +201,7 @@ fn write_flaws<K: Sink>(sink: &mut K, file: u32, flaws: &[Flaw]) -> Result<(), S
 }
 
 /// Writes the lines of a refused file.
-#[tactic(auto, using(ax_outside::proofs::Pieces::pieces))]
+#[tactic(auto, using(ax_endpoints::proofs::Pieces::pieces))]
 fn write_refused_file<K: Sink>(sink: &mut K, file: u32, fault: &SpecFault) -> Result<(), SinkFailed>
     ensures { Wrote (sink_change K.Sink sink.old sink.new) result (fault_lines file fault.now) }
 {
@@ -238,7 +238,7 @@ fn write_refused_file<K: Sink>(sink: &mut K, file: u32, fault: &SpecFault) -> Re
 }
 
 /// Writes the lines of a file with flaws.
-#[tactic(auto, using(ax_outside::proofs::Pieces::pieces))]
+#[tactic(auto, using(ax_endpoints::proofs::Pieces::pieces))]
 fn write_flawed<K: Sink>(sink: &mut K, file: u32, flaws: &Flaws) -> Result<(), SinkFailed>
     ensures { Wrote (sink_change K.Sink sink.old sink.new) result (fault_lines file (SpecFault.Flawed flaws.now)) }
 {
@@ -253,7 +253,7 @@ fn write_flawed<K: Sink>(sink: &mut K, file: u32, flaws: &Flaws) -> Result<(), S
 }
 
 /// Writes the lines of an outcome.
-#[tactic(auto, using(ax_outside::proofs::Pieces::pieces))]
+#[tactic(auto, using(ax_endpoints::proofs::Pieces::pieces))]
 pub fn write_lines<K: Sink>(sink: &mut K, outcome: &Outcome) -> Result<(), SinkFailed>
     ensures { Wrote (sink_change K.Sink sink.old sink.new) result (lines_of outcome.now) }
 {

@@ -28,7 +28,7 @@ use Rattle.ax_format.specs.Shared.{Shared}
 use Rattle.ax_format.specs.Specification.{SpecTree}
 use Rattle.ax_format.specs.Split.{first_too_long, fits_within, records_length, split_octets}
 use Rattle.ax_format.specs.Tree.{EntriesTree}
-use Rattle.ax_outside.specs.Changes.{SinkChange}
+use Rattle.ax_endpoints.specs.Changes.{SinkChange}
 use Rattle.ax_report.specs.Lines.{entry_line}
 use Rattle.ax_rescale.proofs.NothingConverted.{not_convertible, record_moves, missed_are_lost}
 use Rattle.ax_rescale.proofs.ScaledKinds.{neither}

@@ -5,9 +5,9 @@ use Rattle.ax_convert_work.specs.Making.{IsMade, NotMade, all_octets}
 use Rattle.ax_convert_work.specs.declared.blocks.DataBlock.{DataBlock}
 use Rattle.ax_format.specs.Framing.{RawTree}
 use Rattle.ax_format.specs.Specification.{SpecTree}
-use Rattle.ax_outside.proofs.Pieces.{change}
-use Rattle.ax_outside.specs.Changes.{SinkChange, Wrote}
-use Rattle.ax_outside.specs.declared.sinks.SinkFailed.{SinkFailed}
+use Rattle.ax_endpoints.proofs.Pieces.{change}
+use Rattle.ax_endpoints.specs.Changes.{SinkChange, Wrote}
+use Rattle.ax_endpoints.specs.declared.sinks.SinkFailed.{SinkFailed}
 use Rattle.ax_rescale.specs.Misses.{missed_lines}
 use Rattle.ax_rescale.specs.declared.miss.Miss.{Miss}
 use Rattle.ax_blocks.proofs.Taken.{Answers, octets_written, takes_after_lines, takes_cut_line, takes_fault, takes_too_long, takes_nothing}

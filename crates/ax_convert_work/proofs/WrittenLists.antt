@@ -2,9 +2,9 @@
 use Rattle.std.proofs.Common.{◌≡◌, ℕ, ◌+◌, ◌<◌, ◌≤◌, List, [], ◌++◌, flat_map, Option, length, drop, get_or, refl, sym, ◌∙◌, ap, append_assoc, append-nil, arith, Result, Ok, Err, IsErr}
 use Rattle.std.proofs.lemmas.List.{drop_all}
 use Rattle.ax_format.proofs.Namings.{from_place}
-use Rattle.ax_outside.proofs.Pieces.{change, written_then, failed_before, same_text, nothing_written}
-use Rattle.ax_outside.specs.Changes.{Wrote}
-use Rattle.ax_outside.specs.declared.sinks.SinkFailed.{SinkFailed}
+use Rattle.ax_endpoints.proofs.Pieces.{change, written_then, failed_before, same_text, nothing_written}
+use Rattle.ax_endpoints.specs.Changes.{Wrote}
+use Rattle.ax_endpoints.specs.declared.sinks.SinkFailed.{SinkFailed}
 
 module _ {A : Type 0} (text : A → List ℕ) (list : List A) where
   -- the texts before place i were written

@@ -14,7 +14,7 @@ use ax_blocks::{BlockWork, WorkStop};
 use ax_check::Accepted;
 use ax_format::RawBlock;
 use ax_migrate_views::{MigrateViews, Migrator};
-use ax_outside::Sink;
+use ax_endpoints::Sink;
 use ax_relation::Relation;
 use ax_view::scan;
 use std::alloc::{AllocError, Global};

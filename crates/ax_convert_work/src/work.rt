@@ -9,7 +9,7 @@ use crate::writing::{write_blocks, write_misses};
 use ax_blocks::{BlockWork, WorkStop};
 use ax_check::Accepted;
 use ax_format::RawBlock;
-use ax_outside::Sink;
+use ax_endpoints::Sink;
 use ax_relation::Relation;
 use ax_rescale::Converter;
 use ax_uap::UapItems;

@@ -1,10 +1,10 @@
 //! What was made of a block, written.
 ghost use Rattle.ax_convert_work.specs.Making.{all_octets};
-ghost use Rattle.ax_outside.specs.Changes.{Wrote, sink_change};
+ghost use Rattle.ax_endpoints.specs.Changes.{Wrote, sink_change};
 ghost use Rattle.ax_rescale.specs.Misses.{missed_lines};
 
 use crate::blocks::DataBlocks;
-use ax_outside::{Sink, SinkFailed, write_text};
+use ax_endpoints::{Sink, SinkFailed, write_text};
 use ax_rescale::{Misses, miss_line};
 
 /// Writes the lines of what is missed of the block of that number. At `SinkFailed` a prefix of them was added.

@@ -13,7 +13,7 @@ use ax_codec::Codec;
 use ax_expand::AcceptedExpansion;
 use ax_format::RawBlock;
 use ax_octets::Octets;
-use ax_outside::{Sink, write_text};
+use ax_endpoints::{Sink, write_text};
 use ax_view::scan;
 use std::alloc::Global;
 

@@ -8,7 +8,7 @@ use Rattle.ax_format.specs.Blocks.{read_block}
 use Rattle.ax_format.specs.Framing.{RawTree}
 use Rattle.ax_format.specs.Specification.{SpecTree}
 use Rattle.ax_format.specs.declared.fault.BodyFault.{BodyFault}
-use Rattle.ax_outside.specs.Changes.{SinkChange}
+use Rattle.ax_endpoints.specs.Changes.{SinkChange}
 use Rattle.ax_blocks.proofs.BlockSteps.{known_category, short_fault}
 use Rattle.ax_blocks.proofs.MadeBlocks.{read_made, opaque_made, tree_taken, tree_fails}
 use Rattle.ax_blocks.proofs.Taken.{nothing_written}

@@ -10,7 +10,7 @@ use ax_blocks::{BlockWork, WorkStop, write_piece};
 use ax_canon::blank_output;
 use ax_filter::{Filter, Memo};
 use ax_format::RawBlock;
-use ax_outside::Sink;
+use ax_endpoints::Sink;
 use ax_tables::Codecs;
 use std::alloc::{AllocError, Global};
 

@@ -11,9 +11,9 @@ use Rattle.ax_lines.specs.Ending as Lines
 use Rattle.ax_lines.specs.Ending.{longest_line}
 use Rattle.ax_load.specs.declared.fault.LoadStop.{LoadStop}
 use Rattle.ax_load.specs.declared.fault.LoadStop.TheVariants as LoadStopOf
-use Rattle.ax_outside.specs.Changes.{none_counted}
-use Rattle.ax_outside.specs.Files.{File}
-use Rattle.ax_outside.specs.Told.{Rose}
+use Rattle.ax_endpoints.specs.Changes.{none_counted}
+use Rattle.ax_endpoints.specs.Files.{File}
+use Rattle.ax_endpoints.specs.Told.{Rose}
 use Rattle.ax_salvage.proofs.OneSalvage.{salvaged_once}
 use Rattle.ax_blocks.proofs.AnswersOnce.{answers_once}
 use Rattle.ax_blocks.specs.Commands.{output_of, report_of}

@@ -2,7 +2,7 @@
 
 ghost use Rattle.std.specs.Prelude.{◌≡◌, ℕ, List};
 ghost use Rattle.ax_command.specs.declared.outcome.Outcome.{Outcome};
-ghost use Rattle.ax_outside.specs.Files.{File};
+ghost use Rattle.ax_endpoints.specs.Files.{File};
 ghost use Rattle.ax_app.specs.Answer.{Answer};
 
 /// The words, the files and the input determine the outcome, what is written and what is reported.

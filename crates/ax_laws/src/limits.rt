@@ -12,7 +12,7 @@ ghost use Rattle.ax_format.specs.CanonicalOctets.{framed};
 ghost use Rattle.ax_format.specs.Framing.{len_of};
 ghost use Rattle.ax_format.specs.Sizes.{longest_block};
 ghost use Rattle.ax_format.specs.Specification.{SpecTree};
-ghost use Rattle.ax_outside.specs.Changes.{LibraryCounts, IsUnasked};
+ghost use Rattle.ax_endpoints.specs.Changes.{LibraryCounts, IsUnasked};
 ghost use Rattle.ax_blocks.specs.Ending as Blocks;
 ghost use Rattle.ax_vectors.specs.Made.{block_of};
 ghost use Rattle.ax_words.specs.Words.{IsInBounds};

@@ -7,11 +7,11 @@ ghost use Rattle.ax_load.specs.declared.fault.SpecFault.{SpecFault};
 ghost use Rattle.ax_expand.specs.Expansion.{ExpansionTree};
 ghost use Rattle.ax_load.specs.FileAnswers.{IsAccepted, IsRefused, IsAcceptedIn, IsRefusedIn};
 ghost use Rattle.ax_load.specs.Languages.{expansion_files};
-ghost use Rattle.ax_outside.specs.Changes.{LibraryCounts};
+ghost use Rattle.ax_endpoints.specs.Changes.{LibraryCounts};
 ghost use Rattle.ax_load.specs.Loading.{FilesGive, FilesEnd};
 ghost use Rattle.ax_format.specs.Specification.{SpecTree};
-ghost use Rattle.ax_outside.specs.Files.{File};
-ghost use Rattle.ax_outside.specs.Told.{Rose};
+ghost use Rattle.ax_endpoints.specs.Files.{File};
+ghost use Rattle.ax_endpoints.specs.Told.{Rose};
 
 /// A file is accepted with one specification, an accepted file isn't refused, and a refused one has one fault.
 pub fn file_accepted_once()

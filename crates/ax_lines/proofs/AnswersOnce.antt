@@ -11,8 +11,8 @@ use Rattle.ax_lines.specs.Runs as RunOf
 use Rattle.ax_lines.specs.Runs.{BeginsWith, EndsWithInput, EndsAtLine, LinesAnswer, ToldRun, IsCaused, LinesRun}
 use Rattle.ax_lines.specs.declared.end.LinesEnd.{LinesEnd}
 use Rattle.ax_lines.specs.declared.end.LinesEnd.TheVariants as EndOf
-use Rattle.ax_outside.specs.Changes.{SourceChange, SinkChange}
-use Rattle.ax_outside.specs.Told.{with_end, Rose}
+use Rattle.ax_endpoints.specs.Changes.{SourceChange, SinkChange}
+use Rattle.ax_endpoints.specs.Told.{with_end, Rose}
 
 later_number : (n k : ℕ) → n + 1 + k ≡ n + suc k
 later_number n k = omega arith

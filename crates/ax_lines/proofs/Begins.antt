@@ -2,7 +2,7 @@
 use Rattle.std.proofs.Common.{◌≡◌, ℕ, ◌+◌, ◌≤◌, List, [], ◌∷◌, ◌++◌, Option, Some, None, length, refl, sym, ◌∙◌, ap, subst, append_assoc}
 use Rattle.ax_lines.specs.Lined.{LinedEnd, line, end, IsNextLine, Lined}
 use Rattle.ax_lines.specs.Runs.{BeginsWith, IsLeftOf}
-use Rattle.ax_outside.specs.Told.{with_front, IsAtEnd}
+use Rattle.ax_endpoints.specs.Told.{with_front, IsAtEnd}
 
 -- a line more
 pub begins_snoc : (line_limit limit before : ℕ) (octets : List ℕ) (lines : List (List ℕ)) (past : ℕ) (rest one after : List ℕ) (taken : ℕ) → BeginsWith line_limit limit before octets lines past rest → IsNextLine line_limit limit past rest (line one after) → length rest ≡ taken + length after

@@ -6,7 +6,7 @@ use Rattle.ax_lines.specs.declared.reader.Ended.{Ended}
 use Rattle.ax_lines.specs.declared.reader.Ended.TheVariants.{EndOfInput}
 use Rattle.ax_lines.proofs.Begins.{begins_snoc, begins_end, left_of_ahead, IsPartOf, part_of_taken, left_of_part, none_left}
 use Rattle.ax_lines.proofs.Results.{output_snoc, results_snoc, feeds_snoc, answered_snoc, length_snoc}
-use Rattle.ax_outside.proofs.Gains.{both, gains_both, gains_on, gains_part}
+use Rattle.ax_endpoints.proofs.Gains.{both, gains_both, gains_on, gains_part}
 use Rattle.ax_lines.specs.Commands.{LineCommand, LineAnswer, gives, refused, octets_in, results_in, output_of, results_of}
 use Rattle.ax_lines.specs.Ending.{lines_end}
 use Rattle.ax_lines.specs.Runs as RunOf
@@ -15,8 +15,8 @@ use Rattle.ax_lines.specs.Standing.{StandsAfter}
 use Rattle.ax_lines.specs.Taking.{IsWritten, EndsAt, refusing, writing, for_memory}
 use Rattle.ax_lines.specs.declared.end.LinesEnd.{LinesEnd}
 use Rattle.ax_lines.specs.declared.end.LinesEnd.TheVariants as EndOf
-use Rattle.ax_outside.specs.Changes.{SourceChange, SinkChange, Gains}
-use Rattle.ax_outside.specs.Told.{with_front, with_end, IsAtEnd}
+use Rattle.ax_endpoints.specs.Changes.{SourceChange, SinkChange, Gains}
+use Rattle.ax_endpoints.specs.Told.{with_front, with_end, IsAtEnd}
 
 -- the input began with lines that are answered, whose results were written; `following` are the octets that aren't given yet.
 -- Where the reader goes on each line has its line feed

@@ -9,7 +9,7 @@ use Rattle.ax_lines.specs.Lined.{PassesLimit, PassesLine}
 use Rattle.ax_lines.specs.declared.judging.Cut.{Cut}
 use Rattle.ax_lines.specs.declared.line_error.LineError.{LineError}
 use Rattle.ax_lines.specs.declared.line_error.LineError.TheVariants.{InputTooLong, LineTooLong}
-use Rattle.ax_outside.specs.Told.{IsAtEnd}
+use Rattle.ax_endpoints.specs.Told.{IsAtEnd}
 
 -- ---- octets parted at a place
 

@@ -3,9 +3,9 @@ use Rattle.std.proofs.Common.{◌≡◌, ℕ, ◌+◌, ◌<◌, ◌≤◌, List,
 use Rattle.ax_lines.specs.Commands.{LineCommand, gives, nothing}
 use Rattle.ax_lines.specs.Taking.{TakesLine, IsWritten, EndsAt, writing}
 use Rattle.ax_lines.specs.declared.end.LinesEnd.TheVariants as EndOf
-use Rattle.ax_outside.proofs.Ends.{with_end-nil}
-use Rattle.ax_outside.specs.Changes.{SinkChange}
-use Rattle.ax_outside.specs.Told.{with_end, Rose}
+use Rattle.ax_endpoints.proofs.Ends.{with_end-nil}
+use Rattle.ax_endpoints.specs.Changes.{SinkChange}
+use Rattle.ax_endpoints.specs.Told.{with_end, Rose}
 
 abbrev pub change : Option (List ℕ) → Option (List ℕ) → ℕ → ℕ → SinkChange
 change held held' faults faults' = record { held = held; held' = held'; faults = faults; faults' = faults' }

@@ -15,8 +15,8 @@ use Rattle.ax_lines.specs.declared.next_line.BufferedLine.{BufferedLine}
 use Rattle.ax_lines.specs.declared.reading.Buffered.{Buffered}
 use Rattle.ax_lines.proofs.Judged.{JudgesAll}
 use Rattle.ax_lines.proofs.LinedOnce.{next_once}
-use Rattle.ax_outside.specs.Changes.{SourceChange}
-use Rattle.ax_outside.specs.Told.{with_front, IsAtEnd}
+use Rattle.ax_endpoints.specs.Changes.{SourceChange}
+use Rattle.ax_endpoints.specs.Told.{with_front, IsAtEnd}
 
 -- ---- what octets show comes next, whatever comes after them
 

@@ -8,7 +8,7 @@ use Rattle.ax_lines.specs.declared.reader.Ended.{Ended}
 use Rattle.ax_lines.specs.declared.reader.Ended.TheVariants.{EndOfInput, Refused as RefusedBy}
 use Rattle.ax_lines.specs.declared.line_error.LineError.{LineError}
 use Rattle.ax_lines.specs.declared.line_error.LineError.TheVariants.{InputTooLong, LineTooLong, ReadFault}
-use Rattle.ax_outside.proofs.Gains.{both, gains_none}
+use Rattle.ax_endpoints.proofs.Gains.{both, gains_none}
 use Rattle.ax_lines.specs.Commands.{KeepsTo, LineAnswer, LineCommand, gives, nothing, refused, results_in}
 use Rattle.ax_lines.specs.Ending.{error_end, lines_end}
 use Rattle.ax_lines.specs.Runs.{CountsOnly, IsCaused, IsLicensed, LinesRun, RunsOverTaken, ToldRun}
@@ -16,10 +16,10 @@ use Rattle.ax_lines.specs.Standing.{StandsAfter}
 use Rattle.ax_lines.specs.Taking.{EndsAt, IsWritten, for_memory, refusing, writing}
 use Rattle.ax_lines.specs.declared.end.LinesEnd.{LinesEnd}
 use Rattle.ax_lines.specs.declared.end.LinesEnd.TheVariants as EndOf
-use Rattle.ax_outside.proofs.Ends.{Rose-later}
-use Rattle.ax_outside.specs.Changes.{SinkChange, SourceChange, source_change}
-use Rattle.ax_outside.specs.declared.sources.Source as SourceOf
-use Rattle.ax_outside.specs.Told.{IsAtEnd, Rose}
+use Rattle.ax_endpoints.proofs.Ends.{Rose-later}
+use Rattle.ax_endpoints.specs.Changes.{SinkChange, SourceChange, source_change}
+use Rattle.ax_endpoints.specs.declared.sources.Source as SourceOf
+use Rattle.ax_endpoints.specs.Told.{IsAtEnd, Rose}
 use Rattle.ax_lines.proofs.FrontLines.{SoFar, ended, line_more, no_memory, nothing_so_far, reading_told, shown_longer, stands_after, stops_told}
 use Rattle.ax_lines.proofs.TakenLines.{TakenSoFar, done_over, failed_over, nothing_taken, refused_over, stopped_over, taken_more, took_nothing}
 

@@ -2,9 +2,9 @@
 use Rattle.std.proofs.Common.{◌≡◌, ℕ, ◌+◌, ◌-◌, ◌<◌, ◌≤◌, List, [], ◌∷◌, ◌++◌, Option, Some, None, length, take, drop, slice_range, sym, ◌∙◌, ap, subst, arith, append_assoc, append-nil, length-take-le, length-append}
 use Rattle.std.proofs.lemmas.List.{take-append-le, take-take, take_at}
 use Rattle.std.proofs.Math.Seq.{take-append-add, drop-append_seam}
-use Rattle.ax_outside.proofs.Ends.{with_front-append, with_front-nil}
-use Rattle.ax_outside.specs.Changes.{SourceChange}
-use Rattle.ax_outside.specs.Told.{with_front, IsAtEnd}
+use Rattle.ax_endpoints.proofs.Ends.{with_front-append, with_front-nil}
+use Rattle.ax_endpoints.specs.Changes.{SourceChange}
+use Rattle.ax_endpoints.specs.Told.{with_front, IsAtEnd}
 use borrow.Rule.Slice.PartMut.{put_mid, post_of, same_len_mid}
 use Rattle.ax_lines.specs.Feeds.{IsPlain, IsFeedAt}
 use Rattle.ax_lines.specs.Holding.{Took, HoldsLine}

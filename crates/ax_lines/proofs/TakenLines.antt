@@ -3,16 +3,16 @@ use Rattle.std.proofs.Common.{List, None, Option, Some, [], ap, append-nil, appe
 use Rattle.ax_lines.specs.Lined.{IsJustNextLine, LinedEnd, all_lines, end, input_too_long, line, line_too_long}
 use Rattle.ax_lines.specs.Reader.{FindsEnd, GivesLine, IsOpen, ReaderState, Shows, ShowsLine, StopsInLine, ahead}
 use Rattle.ax_lines.specs.declared.reader.Ended.{Ended}
-use Rattle.ax_outside.proofs.Gains.{both}
+use Rattle.ax_endpoints.proofs.Gains.{both}
 use Rattle.ax_lines.specs.Commands.{LineCommand}
 use Rattle.ax_lines.specs.Ending.{lines_end}
 use Rattle.ax_lines.specs.Runs.{RunsOverTaken, ToldRun}
 use Rattle.ax_lines.specs.Taking.{EndsAt, IsWritten}
 use Rattle.ax_lines.specs.declared.end.LinesEnd.{LinesEnd}
 use Rattle.ax_lines.specs.declared.end.LinesEnd.TheVariants as EndOf
-use Rattle.ax_outside.proofs.Ends.{with_front-append}
-use Rattle.ax_outside.specs.Changes.{Gains, SinkChange, SourceChange}
-use Rattle.ax_outside.specs.Told.{with_front}
+use Rattle.ax_endpoints.proofs.Ends.{with_front-append}
+use Rattle.ax_endpoints.specs.Changes.{Gains, SinkChange, SourceChange}
+use Rattle.ax_endpoints.specs.Told.{with_front}
 use Rattle.ax_lines.proofs.NextLines.{just_next}
 use Rattle.ax_lines.specs.Holding.{Took}
 use Rattle.ax_lines.proofs.FrontLines.{SoFar, ended, line_more, nothing_so_far, reading_told, stops_told}

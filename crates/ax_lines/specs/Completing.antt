@@ -5,8 +5,8 @@ use Rattle.ax_lines.specs.Commands.{LineAnswer, LineCommand, HasOneAnswer, outpu
 use Rattle.ax_lines.specs.Ending.{longest_line, longest_input}
 use Rattle.ax_lines.specs.declared.end.LinesEnd.{LinesEnd}
 use Rattle.ax_lines.specs.declared.end.LinesEnd.TheVariants.{Done, OutOfMemory}
-use Rattle.ax_outside.specs.Changes.{SourceChange, SinkChange, Gains}
-use Rattle.ax_outside.specs.Told.{Rose}
+use Rattle.ax_endpoints.specs.Changes.{SourceChange, SinkChange, Gains}
+use Rattle.ax_endpoints.specs.Told.{Rose}
 
 -- done with these answers, and what they give was written
 pub record IsDoneWith {F : Type 0} (answers : List (LineAnswer F)) (o : SinkChange) (e : LinesEnd F) : Type 0 where

@@ -3,7 +3,7 @@ use Rattle.std.specs.Prelude.{ℕ, ◌^◌}
 use Rattle.ax_lines.specs.Lined.{LinedEnd, all_lines, input_too_long, line_too_long}
 use Rattle.ax_lines.specs.declared.line_error.LineError.{LineError}
 use Rattle.ax_lines.specs.declared.line_error.LineError.TheVariants as LineErrorOf
-use Rattle.ax_outside.specs.Limits as Limits
+use Rattle.ax_endpoints.specs.Limits as Limits
 use Rattle.ax_lines.specs.declared.end.LinesEnd.{LinesEnd}
 use Rattle.ax_lines.specs.declared.end.LinesEnd.TheVariants.{Done, LineTooLong, InputTooLong, ReadFault}
 

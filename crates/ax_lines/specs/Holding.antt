@@ -2,8 +2,8 @@
 use Rattle.std.specs.Prelude.{◌≡◌, ℕ, ◌+◌, ◌<◌, ◌≤◌, List, ◌++◌, length, slice_range, None}
 use Rattle.ax_lines.specs.Feeds.{IsPlain, IsFirstFeed}
 use Rattle.ax_lines.specs.declared.reading.Buffered.{Buffered}
-use Rattle.ax_outside.specs.Changes.{SourceChange}
-use Rattle.ax_outside.specs.Told.{with_front, IsAtEnd}
+use Rattle.ax_endpoints.specs.Changes.{SourceChange}
+use Rattle.ax_endpoints.specs.Told.{with_front, IsAtEnd}
 
 -- these octets were taken: they stood in front of what is left now, and the number of octets taken rose by their count
 pub record Took (i : SourceChange) (octets : List ℕ) : Type 0 where

@@ -6,7 +6,7 @@ use Rattle.ax_lines.specs.Reader.{Shows}
 use Rattle.ax_lines.specs.declared.judging.Cut.{Cut}
 use Rattle.ax_lines.specs.declared.line_error.LineError.{LineError}
 use Rattle.ax_lines.specs.declared.line_error.LineError.TheVariants.{InputTooLong, LineTooLong, ReadFault}
-use Rattle.ax_outside.specs.Told.{IsAtEnd}
+use Rattle.ax_endpoints.specs.Told.{IsAtEnd}
 
 -- after the first line feed, or after all of them
 abbrev pub IsCut : Option ℕ → ℕ → Cut → Type 0

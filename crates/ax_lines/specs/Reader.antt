@@ -8,8 +8,8 @@ use Rattle.ax_lines.specs.declared.line_error.LineError.{LineError}
 use Rattle.ax_lines.specs.declared.line_error.LineError.TheVariants.{InputTooLong, LineTooLong, ReadFault}
 use Rattle.ax_lines.specs.declared.reader.Ended.{Ended}
 use Rattle.ax_lines.specs.declared.reader.Ended.TheVariants.{EndOfInput, Refused}
-use Rattle.ax_outside.specs.Changes.{SourceChange}
-use Rattle.ax_outside.specs.Told.{with_front, IsAtEnd}
+use Rattle.ax_endpoints.specs.Changes.{SourceChange}
+use Rattle.ax_endpoints.specs.Told.{with_front, IsAtEnd}
 
 -- a reader: the limits on a line and on its input, the count of octets of the lines that it gave, line feeds included, the
 -- octets that it has taken after them, and what it answers from now on, once it has ended or refused

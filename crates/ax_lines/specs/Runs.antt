@@ -9,8 +9,8 @@ use Rattle.ax_lines.specs.Commands.{LineCommand, LineAnswer, gives, refused, out
 use Rattle.ax_lines.specs.Ending.{lines_end, longest_line, longest_input}
 use Rattle.ax_lines.specs.declared.end.LinesEnd.{LinesEnd}
 use Rattle.ax_lines.specs.declared.end.LinesEnd.TheVariants.{Done, Refused, LineTooLong, InputTooLong, ReadFault, WriteFault, OutOfMemory}
-use Rattle.ax_outside.specs.Changes.{SourceChange, SinkChange, Gains, GainsWithPart}
-use Rattle.ax_outside.specs.Told.{Rose}
+use Rattle.ax_endpoints.specs.Changes.{SourceChange, SinkChange, Gains, GainsWithPart}
+use Rattle.ax_endpoints.specs.Told.{Rose}
 
 -- ---- lines at the front of an input
 

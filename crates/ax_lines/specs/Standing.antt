@@ -5,7 +5,7 @@ use Rattle.ax_lines.specs.Reader.{ReaderState, IsOpen, ahead}
 use Rattle.ax_lines.specs.Runs.{BeginsWith}
 use Rattle.ax_lines.specs.declared.end.LinesEnd.{LinesEnd}
 use Rattle.ax_lines.specs.declared.end.LinesEnd.TheVariants.{Refused}
-use Rattle.ax_outside.specs.Changes.{SourceChange}
+use Rattle.ax_endpoints.specs.Changes.{SourceChange}
 
 -- the line of that number was the last that was asked for: the reader holds what was taken past it, and wasn't asked again
 pub record StandsAfter (line_limit limit : ℕ) (input : List ℕ) (left' : Option (List ℕ)) (reader : ReaderState) (number : ℕ) : Type 0 where

@@ -5,7 +5,7 @@ use Rattle.ax_lines.specs.declared.end.LinesEnd.{LinesEnd}
 use Rattle.ax_lines.specs.declared.end.LinesEnd.TheVariants as EndOf
 use Rattle.ax_lines.specs.declared.work.LineStop.{LineStop}
 use Rattle.ax_lines.specs.declared.work.LineStop.TheVariants.{Refused, OutOfMemory}
-use Rattle.ax_outside.specs.Changes.{SinkChange, Gains, GainsNothing, GainsPart}
+use Rattle.ax_endpoints.specs.Changes.{SinkChange, Gains, GainsNothing, GainsPart}
 
 -- the work's answer is the command's: the octets are laid, or there are none, or the line is refused
 abbrev pub TakesLine : {F : Type 0} → LineCommand F → ℕ → List ℕ → List ℕ → Result Bool (LineStop F) → Type 0

@@ -2,7 +2,7 @@
 use Rattle.std.specs.Prelude.{ℕ, ◌+◌, ◌-◌, ◌≤◌, List, length, slice_range}
 use Rattle.ax_lines.specs.Reader.{ended_after, GivesLine}
 use Rattle.ax_lines.specs.declared.next_line.BufferedLine.{BufferedLine}
-use Rattle.ax_outside.specs.Changes.{SourceChange}
+use Rattle.ax_endpoints.specs.Changes.{SourceChange}
 
 -- the line stands in the buffer, and after it what is buffered from now on
 pub record HoldsNext (line_limit limit given : ℕ) (buffered : List ℕ) (i : SourceChange) (buffer : List ℕ) (line : BufferedLine) : Type 0 where

@@ -3,11 +3,11 @@ ghost use Rattle.std.specs.Prelude.{◌≤◌, length};
 ghost use Rattle.ax_lines.specs.Commands.{KeepsTo};
 ghost use Rattle.ax_lines.specs.Ending.{longest_line};
 ghost use Rattle.ax_lines.specs.Taking.{DoesLine};
-ghost use Rattle.ax_outside.specs.Changes.{sink_change};
+ghost use Rattle.ax_endpoints.specs.Changes.{sink_change};
 
 use crate::end::LinesEnd;
 use crate::work::{LineStop, LineWork};
-use ax_outside::{Sink, write_all_of};
+use ax_endpoints::{Sink, write_all_of};
 
 /// Takes the line of that number, and writes its octets, where it has a result, as one piece. It answers how many results
 /// were written, one or none; or the end of the run at this line.

@@ -3,13 +3,13 @@ ghost use Rattle.std.specs.Prelude.{◌≡◌, ◌<◌, ◌≤◌, ◌^◌, [], 
 ghost use Rattle.ax_lines.specs.Ending.{longest_line};
 ghost use Rattle.ax_lines.specs.Runs.{LinesRunBy};
 ghost use Rattle.ax_lines.specs.Standing.{StandsWhereRefused};
-ghost use Rattle.ax_outside.specs.Changes.{source_change, sink_change};
+ghost use Rattle.ax_endpoints.specs.Changes.{source_change, sink_change};
 
 use crate::doing::do_line;
 use crate::end::{LinesEnd, reader_end};
 use crate::reader::LineReader;
 use crate::work::LineWork;
-use ax_outside::{Sink, Source};
+use ax_endpoints::{Sink, Source};
 
 /// Reads the input to its end, line by line: each is judged as a whole, then its octets are written as one piece. It takes
 /// no memory but the work's. Nothing is read after a line that was refused.

@@ -3,13 +3,13 @@ ghost use Rattle.std.specs.Prelude.{◌≡◌, ◌+◌, ◌≤◌, ◌<◌, ◌�
 ghost use Rattle.ax_lines.specs.Feeds.{IsPlain};
 ghost use Rattle.ax_lines.specs.Reader.{read_ahead, OnLine, OnEnd, OnReadFault, UnlessReadFault, OnTooLong, FindsEnd, StopsInLine};
 ghost use Rattle.ax_lines.specs.Window.{HoldsNext};
-ghost use Rattle.ax_outside.specs.Changes.{source_change};
-ghost use Rattle.ax_outside.specs.Told.{Rose};
+ghost use Rattle.ax_endpoints.specs.Changes.{source_change};
+ghost use Rattle.ax_endpoints.specs.Told.{Rose};
 
 use crate::judging::judge;
 use crate::line_error::LineError;
 use crate::reading::hold_line;
-use ax_outside::Source;
+use ax_endpoints::Source;
 
 /// A line in a buffer, the octets `start..stop`; those after it and its line feed are `next..end`.
 #[derive(Clone, Copy)]

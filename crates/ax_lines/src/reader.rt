@@ -4,7 +4,7 @@ ghost use Rattle.std.specs.Prelude.{◌≡◌, IfOk, length};
 use crate::line_error::LineError;
 use crate::next_line::{BufferedLine, next_line};
 use crate::reading::READ_AHEAD;
-use ax_outside::Source;
+use ax_endpoints::Source;
 use std::alloc::{AllocError, Global};
 use std::marker::Model;
 
@@ -51,8 +51,8 @@ impl LineReader {
     ghost use Rattle.ax_lines.specs.Feeds.{IsPlain};
     ghost use Rattle.ax_lines.specs.Reader.{IsAfter, IsOpen, line_read, ended_by, ended_after, OnEnd, OnTooLong, OnReadFault, UnlessReadFault, ReaderEnds, ReaderPasses, ReaderStops};
     ghost use Rattle.ax_lines.specs.contracts.reader.LineReader.{the_row};
-    ghost use Rattle.ax_outside.specs.Changes.{source_change};
-    ghost use Rattle.ax_outside.specs.Told.{Rose};
+    ghost use Rattle.ax_endpoints.specs.Changes.{source_change};
+    ghost use Rattle.ax_endpoints.specs.Told.{Rose};
 
     /// A reader of an input of at most `limit` octets in lines of at most `line_limit` octets each, which has taken nothing
     /// and keeps no answer. The room for the longest line and 65,536 octets after it is taken here, once; want of memory

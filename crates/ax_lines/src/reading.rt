@@ -3,11 +3,11 @@ ghost use Rattle.std.specs.Prelude.{◌≡◌, ◌+◌, ◌≤◌, ◌<◌, ◌�
 ghost use Rattle.ax_lines.specs.Feeds.{IsPlain};
 ghost use Rattle.ax_lines.specs.Holding.{HoldsLine, HoldsPart};
 ghost use Rattle.ax_lines.specs.Reader.{read_ahead};
-ghost use Rattle.ax_outside.specs.Changes.{source_change};
-ghost use Rattle.ax_outside.specs.Told.{Rose};
+ghost use Rattle.ax_endpoints.specs.Changes.{source_change};
+ghost use Rattle.ax_endpoints.specs.Told.{Rose};
 
 use crate::feeds::first_feed;
-use ax_outside::{Source, SourceFailed};
+use ax_endpoints::{Source, SourceFailed};
 
 /// The octets `start..end` of a buffer, and the place of the first line feed among them, from the first of them.
 #[derive(Clone, Copy)]

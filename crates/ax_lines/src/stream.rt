@@ -2,13 +2,13 @@
 ghost use Rattle.std.specs.Prelude.{◌≡◌};
 ghost use Rattle.ax_lines.specs.Completing.{CompletesWhole};
 ghost use Rattle.ax_lines.specs.Runs.{LinesRunWhole};
-ghost use Rattle.ax_outside.specs.Changes.{source_change, sink_change};
+ghost use Rattle.ax_endpoints.specs.Changes.{source_change, sink_change};
 
 use crate::driving::drive_lines;
 use crate::end::LinesEnd;
 use crate::reader::LineReader;
 use crate::work::LineWork;
-use ax_outside::{LONGEST_INPUT, Sink, Source};
+use ax_endpoints::{LONGEST_INPUT, Sink, Source};
 use std::alloc::Global;
 
 /// The most octets of a line, its line feed aside.

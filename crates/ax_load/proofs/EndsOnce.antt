@@ -1,7 +1,7 @@
 -- The loading of files ends in one way.
 use Rattle.std.proofs.Common.{◌≡◌, ◌≢◌, ℕ, ◌+◌, ◌<◌, ◌≤◌, ◌⊎◌, inl, inr, List, [], ◌∷◌, ◌++◌, Bool, IsTrue, Option, Some, None, IsSome, length, append_assoc, append-nil, refl, sym, ◌∙◌, ap, subst, arith}
-use Rattle.ax_outside.specs.Files.{File, octets_of, Lacks, Exceeds}
-use Rattle.ax_outside.specs.Told.{Rose}
+use Rattle.ax_endpoints.specs.Files.{File, octets_of, Lacks, Exceeds}
+use Rattle.ax_endpoints.specs.Told.{Rose}
 use Rattle.ax_format.specs.Specification.{SpecTree, spec_of}
 use Rattle.ax_tokens.proofs.Once.{no_bad_byte, none_too_deep, bad_byte_once, too_deep_once, one_kind}
 use Rattle.ax_load.specs.declared.fault.LoadStop.{LoadStop}
@@ -10,7 +10,7 @@ use Rattle.ax_load.specs.declared.fault.SpecFault.{SpecFault}
 use Rattle.ax_load.specs.declared.fault.SpecFault.TheVariants.{TooLarge, BadByte, TooDeep, BadToken, Flawed}
 use Rattle.ax_load.specs.FileAnswers.{IsFlawedIn, IsRefusedIn, largest_file}
 use Rattle.ax_load.specs.Languages.{Language, category_files}
-use Rattle.ax_outside.specs.Changes.{LibraryCounts}
+use Rattle.ax_endpoints.specs.Changes.{LibraryCounts}
 use Rattle.ax_load.specs.Loading.{GivesSpec, IsRefusedFile, StopsAtFile, EachGives, AreNewAfter, HasCategoryTwice, EndsAtFile, by_file, by_category, FilesEnd}
 use Rattle.ax_load.proofs.FilesOnce.{IsOne, category_files_are_one, same_tokens, same_tree, same_octets, spec_given_once, given_stops_for_memory, none_is_none}
 

@@ -14,9 +14,9 @@ use Rattle.ax_load.specs.declared.fault.LoadStop.TheVariants.{SpecRefused}
 use Rattle.ax_load.specs.declared.fault.SpecFault.{SpecFault}
 use Rattle.ax_load.specs.declared.files.FileStop.{FileStop}
 use Rattle.ax_format.specs.declared.flaw.Flaw.{Flaw}
-use Rattle.ax_outside.specs.Changes.{LibraryCounts}
-use Rattle.ax_outside.specs.Files.{File, HoldsFile}
-use Rattle.ax_outside.specs.Told.{number_after}
+use Rattle.ax_endpoints.specs.Changes.{LibraryCounts}
+use Rattle.ax_endpoints.specs.Files.{File, HoldsFile}
+use Rattle.ax_endpoints.specs.Told.{number_after}
 use Rattle.ax_tokens.specs.PlainToken.{PlainToken}
 
 pub lexing : (octets : List ℕ) (stop : FileStop) → length octets ≤ largest_file → LexStops octets stop → FileStops expansion_files octets stop

@@ -7,8 +7,8 @@ use Rattle.ax_load.specs.Loading.{HasNoOctets, StopsAtFile}
 use Rattle.ax_load.specs.declared.fault.LoadStop.{LoadStop}
 use Rattle.ax_load.specs.declared.fault.LoadStop.TheVariants.{SpecRefused, CategoryTwice, LoadFault, OutOfMemory}
 use Rattle.ax_load.specs.declared.fault.SpecFault.TheVariants.{TooLarge, BadByte, TooDeep, BadToken, Flawed}
-use Rattle.ax_outside.specs.Changes.{LibraryCounts}
-use Rattle.ax_outside.specs.Files.{File}
+use Rattle.ax_endpoints.specs.Changes.{LibraryCounts}
+use Rattle.ax_endpoints.specs.Files.{File}
 
 -- it ends the run, whatever it was to spell
 pub no_octets_stop : {T : Type 0} (language : Language T) (files : Option (List File)) (c : LibraryCounts) (name : List ℕ) (i : ℕ) (stop : LoadStop) → HasNoOctets files c name i stop → StopsAtFile language files c name i stop

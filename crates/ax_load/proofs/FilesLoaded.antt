@@ -1,13 +1,13 @@
 -- The files of a command line, loaded one after another.
 use Rattle.std.proofs.Common.{◌≡◌, ℕ, suc, ◌+◌, ◌<◌, ◌≤◌, List, [], ◌∷◌, ◌++◌, Bool, IsTrue, Option, None, IsSome, length, take, drop, get_or, refl, sym, ◌∙◌, ap, subst, drop-cons, add-one, length-append, arith}
-use Rattle.ax_outside.specs.Files.{File}
+use Rattle.ax_endpoints.specs.Files.{File}
 use Rattle.ax_check.specs.Adding.{WhyRefused}
 use Rattle.ax_check.specs.declared.catalogue.AddError.{AddError}
 use Rattle.ax_check.specs.declared.catalogue.AddError.TheVariants as AddErrorOf
 use Rattle.ax_format.specs.Plain.{spec_tree, catalogue_tree}
 use Rattle.ax_format.specs.Specification.{spec_of}
 use Rattle.ax_format.specs.declared.spec.Spec.{Spec}
-use Rattle.ax_outside.specs.Changes.{LibraryCounts}
+use Rattle.ax_endpoints.specs.Changes.{LibraryCounts}
 use Rattle.ax_load.specs.Languages.{category_files}
 use Rattle.ax_load.specs.Loading.{GivesSpec, StopsAtFile, EndsAtFile, FilesEnd, by_file, by_category}
 use Rattle.std.proofs.Math.Seq.{take-length}

@@ -1,7 +1,7 @@
 -- Files give one answer.
 use Rattle.std.proofs.Common.{◌≡◌, ℕ, ◌≤◌, ◌⊎◌, inl, inr, List, [], ◌∷◌, ◌++◌, Bool, IsTrue, Option, Some, None, IsSome, length, append_assoc, append-nil, refl, sym, ◌∙◌, ap, subst, arith}
-use Rattle.ax_outside.specs.Files.{File, octets_of, Lacks, IsLonger, Exceeds}
-use Rattle.ax_outside.specs.Told.{Rose}
+use Rattle.ax_endpoints.specs.Files.{File, octets_of, Lacks, IsLonger, Exceeds}
+use Rattle.ax_endpoints.specs.Told.{Rose}
 use Rattle.ax_format.specs.Specification.{SpecTree, spec_of}
 use Rattle.ax_tokens.specs.PlainToken.{PlainToken}
 use Rattle.ax_tokens.proofs.Once.{tokens_once, no_bad_byte, none_too_deep}
@@ -14,7 +14,7 @@ use Rattle.ax_load.specs.declared.fault.SpecFault.{SpecFault}
 use Rattle.ax_load.specs.declared.fault.SpecFault.TheVariants.{TooLarge, BadByte, TooDeep, BadToken, Flawed}
 use Rattle.ax_load.specs.FileAnswers.{HasTokens, IsAcceptedIn, IsRefusedIn, largest_file}
 use Rattle.ax_load.specs.Languages.{Language, category_files}
-use Rattle.ax_outside.specs.Changes.{LibraryCounts}
+use Rattle.ax_endpoints.specs.Changes.{LibraryCounts}
 use Rattle.ax_load.specs.Loading.{GivesIn, GivesSpec, IsRefusedFile, IsRefusedOctets, StopsAtFile, EachGives, AreNewAfter, HasCategoryTwice, EndsAtFile, by_file, by_category, FilesGive, FilesEnd}
 
 -- ---- one file

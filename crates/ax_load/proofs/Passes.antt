@@ -1,6 +1,6 @@
 -- The files up to one, as the loop walks over them.
 use Rattle.std.proofs.Common.{◌≡◌, ℕ, ◌+◌, List, [], ◌∷◌, ◌++◌, Bool, IsTrue, Option, None, length, refl, sym, ◌∙◌, ap, subst, append_assoc, append-nil, length-append}
-use Rattle.ax_outside.specs.Files.{File}
+use Rattle.ax_endpoints.specs.Files.{File}
 use Rattle.ax_format.specs.Specification.{SpecTree, spec_of}
 use Rattle.ax_load.specs.Loading.{GivesSpec, EachGives, AreNewAfter, FilesGive}
 

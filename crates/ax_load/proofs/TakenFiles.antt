@@ -11,9 +11,9 @@ use Rattle.ax_load.specs.Loading.{StopsAtFile}
 use Rattle.ax_load.specs.declared.fault.LoadStop.{LoadStop}
 use Rattle.ax_load.specs.declared.fault.LoadStop.TheVariants.{SpecRefused, CategoryTwice, LoadFault, OutOfMemory}
 use Rattle.ax_load.specs.declared.fault.SpecFault.TheVariants.{TooLarge, BadByte, TooDeep, BadToken, Flawed}
-use Rattle.ax_outside.specs.Changes.{LibraryCounts}
-use Rattle.ax_outside.specs.Files.{File, octets_of}
-use Rattle.ax_outside.specs.Told.{number_after}
+use Rattle.ax_endpoints.specs.Changes.{LibraryCounts}
+use Rattle.ax_endpoints.specs.Files.{File, octets_of}
+use Rattle.ax_endpoints.specs.Told.{number_after}
 
 -- ---- the first names
 

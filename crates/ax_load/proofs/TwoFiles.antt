@@ -1,10 +1,10 @@
 -- Two files, whatever their categories.
 use Rattle.std.proofs.Common.{◌≡◌, ℕ, ◌≤◌, ◌⊎◌, inl, inr, false, IsTrue, List, [], ◌∷◌, Option, Some, None, Result, Ok, Err, IfErr, refl, sym, subst, arith}
 use Rattle.std.specs.Result.{IsErrAnd}
-use Rattle.ax_outside.proofs.Ends.{Rose-later}
-use Rattle.ax_outside.specs.Changes.{LibraryCounts}
-use Rattle.ax_outside.specs.Files.{File, Lacks, TooMany}
-use Rattle.ax_outside.specs.Told.{Rose}
+use Rattle.ax_endpoints.proofs.Ends.{Rose-later}
+use Rattle.ax_endpoints.specs.Changes.{LibraryCounts}
+use Rattle.ax_endpoints.specs.Files.{File, Lacks, TooMany}
+use Rattle.ax_endpoints.specs.Told.{Rose}
 use Rattle.ax_format.specs.Specification.{SpecTree}
 use Rattle.ax_load.specs.Languages.{Language, category_files}
 use Rattle.ax_load.specs.Loading.{GivesSpec, AreNewAfter, FilesGive, FilesEnd, StopsAtFile, IsRefusedFile, by_file}

@@ -6,8 +6,8 @@ use Rattle.ax_load.specs.Languages.{category_files, expansion_files}
 use Rattle.ax_load.specs.Loading.{GivesIn, GivesSpec, FilesGive, StopsAtFile, by_file, EitherEnds, first, second}
 use Rattle.ax_load.specs.declared.fault.LoadStop.{LoadStop}
 use Rattle.ax_format.specs.Specification.{SpecTree}
-use Rattle.ax_outside.specs.Changes.{LibraryCounts}
-use Rattle.ax_outside.specs.Files.{File}
+use Rattle.ax_endpoints.specs.Changes.{LibraryCounts}
+use Rattle.ax_endpoints.specs.Files.{File}
 
 pub one_gives : (files : Option (List File)) (name : List ℕ) (spec : SpecTree) → GivesSpec files name spec → FilesGive false files (name ∷ []) (spec ∷ [])
 one_gives files name spec h = record { each = (h, tt); categories = free [] (spec ∷ []) }

@@ -1,7 +1,7 @@
 -- How many octets loading takes from a library that tells its files, and where it counts a fault.
 use Rattle.std.specs.Prelude.{◌≡◌, ℕ, ◌+◌, ◌⊎◌, List, [], ◌∷◌, Option, Some, None, Result, Err, length, take}
-use Rattle.ax_outside.specs.Files.{File, octets_of}
-use Rattle.ax_outside.specs.Told.{number_after}
+use Rattle.ax_endpoints.specs.Files.{File, octets_of}
+use Rattle.ax_endpoints.specs.Told.{number_after}
 use Rattle.ax_load.specs.declared.fault.LoadStop.{LoadStop}
 use Rattle.ax_load.specs.declared.fault.LoadStop.TheVariants.{SpecRefused, CategoryTwice, LoadFault, OutOfMemory}
 use Rattle.ax_load.specs.declared.fault.SpecFault.TheVariants.{TooLarge, BadByte, TooDeep, BadToken, Flawed}

@@ -1,8 +1,8 @@
 -- Which specifications the files of a command line give, or how the run ends at the first one that gives none.
 use Rattle.std.specs.Prelude.{◌≡◌, ℕ, ◌⊎◌, List, [], ◌∷◌, ◌++◌, Bool, false, IsTrue, Option, None, IsSome, length}
-use Rattle.ax_outside.specs.Files.{File, HoldsFile, Lacks, TooMany}
-use Rattle.ax_outside.specs.Changes.{LibraryCounts}
-use Rattle.ax_outside.specs.Told.{Rose}
+use Rattle.ax_endpoints.specs.Files.{File, HoldsFile, Lacks, TooMany}
+use Rattle.ax_endpoints.specs.Changes.{LibraryCounts}
+use Rattle.ax_endpoints.specs.Told.{Rose}
 use Rattle.ax_format.specs.Specification.{SpecTree, spec_of}
 use Rattle.ax_load.specs.FileAnswers.{largest_file, IsAcceptedIn, IsRefusedIn}
 use Rattle.ax_load.specs.Languages.{Language, category_files, expansion_files}

@@ -5,7 +5,7 @@ ghost use Rattle.ax_load.specs.Counting.{TookFiles, TookAt, TookThrough, UnlessL
 ghost use Rattle.ax_load.specs.Languages.{expansion_files};
 ghost use Rattle.ax_load.specs.Loading.{GivesIn, StopsAtFile, FilesGive, EitherEnds};
 ghost use Rattle.ax_format.specs.Plain.{spec_tree};
-ghost use Rattle.ax_outside.specs.Changes.{library_counts};
+ghost use Rattle.ax_endpoints.specs.Changes.{library_counts};
 
 use crate::expansion_files::read_expansion_file;
 use crate::fault::LoadStop;
@@ -13,7 +13,7 @@ use crate::files::FileStop;
 use crate::loading::{load_file, load_octets};
 use ax_check::Accepted;
 use ax_expand::AcceptedExpansion;
-use ax_outside::Library;
+use ax_endpoints::Library;
 use std::alloc::Global;
 
 /// The expansion of the file of that name, or how the run ends. The file has that number in the order of the words. It is

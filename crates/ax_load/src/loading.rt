@@ -3,9 +3,9 @@ ghost use Rattle.std.specs.Prelude.{◌≡◌, ◌+◌, ◌≤◌, ◌<◌, true
 ghost use Rattle.ax_format.specs.Plain.{spec_tree, catalogue_tree};
 ghost use Rattle.ax_load.specs.Adding.{stop_of_adding};
 ghost use Rattle.ax_load.specs.Counting.{TookFiles, TookAt, TookThrough, UnlessLoadFault};
-ghost use Rattle.ax_outside.specs.Changes.{IsUnasked, library_counts};
-ghost use Rattle.ax_outside.specs.Files.{HoldsFile};
-ghost use Rattle.ax_outside.specs.Told.{number_after};
+ghost use Rattle.ax_endpoints.specs.Changes.{IsUnasked, library_counts};
+ghost use Rattle.ax_endpoints.specs.Files.{HoldsFile};
+ghost use Rattle.ax_endpoints.specs.Told.{number_after};
 ghost use Rattle.ax_load.specs.Languages.{category_files};
 ghost use Rattle.ax_load.specs.FileAnswers.{largest_file};
 ghost use Rattle.ax_load.specs.Loading.{GivesSpec, HasNoOctets, StopsAtFile, FilesGive, FilesEnd};
@@ -13,7 +13,7 @@ ghost use Rattle.ax_load.specs.Loading.{GivesSpec, HasNoOctets, StopsAtFile, Fil
 use crate::fault::{LoadStop, SpecFault};
 use crate::files::{FileStop, LARGEST_FILE, read_file};
 use ax_check::{Accepted, AddError, Catalogue};
-use ax_outside::{Library, LoadError};
+use ax_endpoints::{Library, LoadError};
 use ax_words::WordText;
 use std::alloc::Global;
 

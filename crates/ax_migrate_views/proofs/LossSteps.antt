@@ -17,9 +17,9 @@ use Rattle.ax_format.specs.At.{slot_value}
 use Rattle.ax_format.specs.InBounds.{InBounds}
 use Rattle.ax_format.specs.Spelling.{Spells}
 use Rattle.ax_format.specs.Tree.{slots_of, KindTree, ValueTree, marked, EntriesTree}
-use Rattle.ax_outside.proofs.Pieces.{change, written_then, failed_before, same_text}
-use Rattle.ax_outside.specs.Changes.{Wrote}
-use Rattle.ax_outside.specs.declared.sinks.SinkFailed.{SinkFailed}
+use Rattle.ax_endpoints.proofs.Pieces.{change, written_then, failed_before, same_text}
+use Rattle.ax_endpoints.specs.Changes.{Wrote}
+use Rattle.ax_endpoints.specs.declared.sinks.SinkFailed.{SinkFailed}
 use Rattle.ax_codec.specs.declared.codec.Codec.{Codec}
 use Rattle.ax_codec.specs.Meaning.{meanings, linked_slots}
 use Rattle.ax_codec.specs.Table.{record_kind_at}

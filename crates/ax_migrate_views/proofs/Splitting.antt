@@ -17,9 +17,9 @@ use Rattle.ax_format.specs.CanonicalOctets.{canon_block}
 use Rattle.ax_format.specs.Specification.{SpecTree}
 use Rattle.ax_format.specs.Split.{first_too_long, fit_after, fit_count, fits_within, records_length, split_octets, too_long_within}
 use Rattle.ax_format.specs.Tree.{EntriesTree}
-use Rattle.ax_outside.proofs.Pieces.{change, failed_before, nothing_written, same_text, written_then}
-use Rattle.ax_outside.specs.Changes.{SinkChange, Wrote}
-use Rattle.ax_outside.specs.declared.sinks.SinkFailed.{SinkFailed}
+use Rattle.ax_endpoints.proofs.Pieces.{change, failed_before, nothing_written, same_text, written_then}
+use Rattle.ax_endpoints.specs.Changes.{SinkChange, Wrote}
+use Rattle.ax_endpoints.specs.declared.sinks.SinkFailed.{SinkFailed}
 
 -- ---- as many as fit
 

@@ -22,9 +22,9 @@ use Rattle.ax_format.specs.Specification.{SpecTree, spec_of}
 use Rattle.ax_format.specs.Split.{split_octets}
 use Rattle.ax_format.specs.Tree.{EntriesTree}
 use Rattle.ax_format.specs.declared.fault.BodyFault.{BodyFault}
-use Rattle.ax_outside.proofs.Pieces.{change, same_text}
-use Rattle.ax_outside.specs.Changes.{SinkChange, Wrote}
-use Rattle.ax_outside.specs.declared.sinks.SinkFailed.{SinkFailed}
+use Rattle.ax_endpoints.proofs.Pieces.{change, same_text}
+use Rattle.ax_endpoints.specs.Changes.{SinkChange, Wrote}
+use Rattle.ax_endpoints.specs.declared.sinks.SinkFailed.{SinkFailed}
 use Rattle.ax_blocks.proofs.BlockSteps.{short_fault}
 use Rattle.ax_blocks.proofs.OpaqueBlocks.{raw_framed}
 use Rattle.ax_blocks.proofs.Taken.{Answers, octets_written, takes_after_lines, takes_cut_line, takes_silently, takes_fault, takes_too_long}

@@ -22,9 +22,9 @@ use Rattle.ax_format.specs.Bodies.{RecordShape}
 use Rattle.ax_format.specs.Reader.{read, got}
 use Rattle.ax_format.specs.Specification.{SpecTree, record_kind}
 use Rattle.ax_format.specs.Tree.{marked, EntriesTree}
-use Rattle.ax_outside.proofs.Pieces.{change, same_text}
-use Rattle.ax_outside.specs.Changes.{Wrote}
-use Rattle.ax_outside.specs.declared.sinks.SinkFailed.{SinkFailed}
+use Rattle.ax_endpoints.proofs.Pieces.{change, same_text}
+use Rattle.ax_endpoints.specs.Changes.{Wrote}
+use Rattle.ax_endpoints.specs.declared.sinks.SinkFailed.{SinkFailed}
 use Rattle.ax_codec.proofs.BareKinds.{bare_read, stands_record}
 use Rattle.ax_codec.specs.Standing.{StandsFor}
 use Rattle.ax_codec.specs.Table.{record_kind_at}

@@ -17,8 +17,8 @@ use Rattle.ax_migrate_views.specs.Losses.{LosesEach, shown_entries, shown_losses
 use Rattle.ax_moves.specs.Lost.{is_below, key_path, key_paths, losses_below}
 use Rattle.ax_migrate_views.specs.declared.migrator.Migrator.{Migrator}
 use Rattle.ax_moves.specs.declared.lost.LostKey.{LostKey}
-use Rattle.ax_outside.proofs.Pieces.{change, same_text}
-use Rattle.ax_outside.specs.Changes.{Wrote}
+use Rattle.ax_endpoints.proofs.Pieces.{change, same_text}
+use Rattle.ax_endpoints.specs.Changes.{Wrote}
 use Rattle.ax_format.specs.Bodies.{SpellsBody}
 use Rattle.ax_format.specs.Specification.{SpecTree}
 use Rattle.ax_format.specs.Tree.{ValueTree, EntriesTree}

@@ -13,8 +13,8 @@ use Rattle.ax_migrate_views.specs.declared.migrator.Migrator.{Migrator}
 use Rattle.ax_format.specs.Bodies.{SpellsBody}
 use Rattle.ax_format.specs.Sizes.{longest_block}
 use Rattle.ax_format.specs.Tree.{EntriesTree}
-use Rattle.ax_outside.specs.Changes.{SinkChange, Wrote}
-use Rattle.ax_outside.specs.declared.sinks.SinkFailed.{SinkFailed}
+use Rattle.ax_endpoints.specs.Changes.{SinkChange, Wrote}
+use Rattle.ax_endpoints.specs.declared.sinks.SinkFailed.{SinkFailed}
 use Rattle.ax_codec.specs.Table.{record_kind_at}
 use Rattle.ax_codec.specs.declared.codec.Codec.{Codec}
 use Rattle.ax_view.specs.Left.{records_left}

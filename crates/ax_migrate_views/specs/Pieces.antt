@@ -11,8 +11,8 @@ use Rattle.ax_format.specs.CanonicalOctets.{canon_block}
 use Rattle.ax_format.specs.Sizes.{longest_block}
 use Rattle.ax_format.specs.Split.{first_too_long, records_length, split_octets}
 use Rattle.ax_format.specs.Tree.{EntriesTree}
-use Rattle.ax_outside.specs.Changes.{SinkChange, Wrote}
-use Rattle.ax_outside.specs.declared.sinks.SinkFailed.{SinkFailed}
+use Rattle.ax_endpoints.specs.Changes.{SinkChange, Wrote}
+use Rattle.ax_endpoints.specs.declared.sinks.SinkFailed.{SinkFailed}
 
 -- the octets of the first record that is too long for a block of its own, if one is
 pub record FindsTooLong (m : Migrator) (body : List ℕ) (found : Option ℕ) : Type 0 where

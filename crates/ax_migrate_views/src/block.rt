@@ -5,7 +5,7 @@ ghost use Rattle.ax_migrate_views.specs.Blocks.{new_tree, old_tree};
 ghost use Rattle.ax_migrate_views.specs.Losses.{TellsLosses, WritesLosses};
 ghost use Rattle.ax_migrate.specs.Commands.{migrate_command};
 ghost use Rattle.ax_format.specs.Sizes.{longest_body};
-ghost use Rattle.ax_outside.specs.Changes.{sink_change};
+ghost use Rattle.ax_endpoints.specs.Changes.{sink_change};
 ghost use Rattle.ax_blocks.specs.BlockTaking.{Takes};
 ghost use Rattle.ax_blocks.specs.declared.work.WorkStop.TheVariants.{OutOfMemory};
 ghost use Rattle.ax_view.specs.Views.{SpellsSome};
@@ -15,7 +15,7 @@ use crate::pieces::{KnownRange, first_too_long, write_blocks};
 use crate::ranges::Fit;
 use ax_blocks::{WorkStop, write_piece};
 use ax_format::RawBlock;
-use ax_outside::{Sink, SinkFailed, write_text};
+use ax_endpoints::{Sink, SinkFailed, write_text};
 use ax_view::scan;
 
 /// The most octets of a data block, and of lines that are kept.

@@ -3,13 +3,13 @@ ghost use Rattle.std.specs.Prelude.{◌≡◌, [], length};
 ghost use Rattle.ax_bits.specs.Out.{written, room};
 ghost use Rattle.ax_migrate_views.specs.Blocks.{AppendsMigrated, CountsMigrated, HasRoom, LaysMigrated};
 ghost use Rattle.ax_migrate_views.specs.Losses.{LosesEach, WritesLosses, losses_left};
-ghost use Rattle.ax_outside.specs.Changes.{sink_change};
+ghost use Rattle.ax_endpoints.specs.Changes.{sink_change};
 
 use crate::losses::Losses;
 use crate::migrator::Migrator;
 use crate::writing::write_record;
 use ax_bits::Out;
-use ax_outside::{Sink, SinkFailed};
+use ax_endpoints::{Sink, SinkFailed};
 use ax_view::BlockView;
 
 impl<'c> Migrator<'c> {

@@ -2,11 +2,11 @@
 ghost use Rattle.std.specs.Prelude.{◌≡◌, ◌+◌, ◌%◌, ◌≤◌, get_or, length, set, None};
 ghost use Rattle.ax_migrate_views.specs.Pieces.{AreKnown, FindsTooLong, IsRange, WritesBlocks, WritesRange};
 ghost use Rattle.ax_migrate_views.specs.Ranges.{FitsFrom, HasRecords};
-ghost use Rattle.ax_outside.specs.Changes.{sink_change};
+ghost use Rattle.ax_endpoints.specs.Changes.{sink_change};
 
 use crate::migrator::Migrator;
 use crate::ranges::Fit;
-use ax_outside::{Sink, SinkFailed, write_text};
+use ax_endpoints::{Sink, SinkFailed, write_text};
 use ax_view::BlockView;
 
 /// What is kept of a range of migrated records: as many as come into one block, from that of the number `from` on. With none it

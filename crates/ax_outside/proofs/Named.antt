@@ -3,7 +3,7 @@ use Rattle.std.proofs.Common.{◌≡◌, ℕ, ◌+◌, ◌<◌, ◌≤◌, Bool,
 use Rattle.std.proofs.lemmas.List.{at_drop_more, at_drop_all}
 use Rattle.std.specs.List.{find}
 use Rattle.std.specs.Str.{bytes_eq}
-use Rattle.ax_outside.specs.Files.{File, octets_of}
+use Rattle.ax_endpoints.specs.Files.{File, octets_of}
 
 -- of files whose first has that name, or doesn't
 first_of_name : (b : Bool) (name : List ℕ) (f : File) (fs : List File) → b ≡ bytes_eq f.name name

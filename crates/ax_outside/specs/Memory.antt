@@ -2,7 +2,7 @@
 use Rattle.std.specs.Prelude.{ℕ, List, Bool, ◌==◌, max, Option, Some, None, slice_get, map, string_bytes, String, Vec}
 use Rattle.std.specs.Global.{Global}
 use Rattle.std.specs.List.{list_any}
-use Rattle.ax_outside.specs.Files.{File, file}
+use Rattle.ax_endpoints.specs.Files.{File, file}
 
 -- a source in memory
 pub record SourceState : Type 0 where

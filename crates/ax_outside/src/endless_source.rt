@@ -1,7 +1,7 @@
 //! A source that gives one octet again and again, for tests: it doesn't tell what it has left.
 ghost use Rattle.std.specs.Prelude.{◌≡◌, ◌+◌, ◌-◌, ◌≤◌, ◌^◌, length, min, replicate, take, IsOk, IfOk};
 
-use crate::sources::{Source, SourceFailed};
+use ax_endpoints::{Source, SourceFailed};
 
 /// A source of one octet, given 2^64 - 1 times. It never fails, and doesn't tell its content.
 #[derive(Drop)]

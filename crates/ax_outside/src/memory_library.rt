@@ -1,12 +1,12 @@
 //! A library in memory, for tests and proofs: it tells its files.
 ghost use Rattle.std.specs.Prelude.{◌≡◌, ◌+◌, ◌-◌, ◌^◌, ◌<◌, ◌≤◌, ◌↔◌, ◌⊎◌, length, min, Some, None, IsTrue, IsFalse, IfOk, IsErrOf, MatchOption, MatchResult, if◌then◌else◌};
-ghost use Rattle.ax_outside.specs.Told.{Rose, one_more, number_after};
-ghost use Rattle.ax_outside.specs.Files.{octets_of, Exceeds};
+ghost use Rattle.ax_endpoints.specs.Told.{Rose, one_more, number_after};
+ghost use Rattle.ax_endpoints.specs.Files.{octets_of, Exceeds};
 ghost use Rattle.ax_outside.specs.Memory.{LibraryState, files_of, is_listed};
-ghost use Rattle.ax_outside.specs.declared.libraries.LoadError.TheVariants.{Failed, TooLarge};
+ghost use Rattle.ax_endpoints.specs.declared.libraries.LoadError.TheVariants.{Failed, TooLarge};
 
 use crate::calls::is_listed;
-use crate::libraries::{Library, LoadError};
+use ax_endpoints::{Library, LoadError};
 use std::alloc::Global;
 use std::marker::Model;
 

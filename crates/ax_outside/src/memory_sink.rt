@@ -1,10 +1,10 @@
 //! A sink in memory, for tests and proofs: it tells what it holds.
 ghost use Rattle.std.specs.Prelude.{◌≡◌, ◌+◌, ◌-◌, ◌<◌, ◌≤◌, ◌↔◌, ◌⊎◌, ◌++◌, [], length, take, min, IsTrue, IfOk, IsErr, OnErr, MatchResult};
-ghost use Rattle.ax_outside.specs.Told.{Rose, one_more};
+ghost use Rattle.ax_endpoints.specs.Told.{Rose, one_more};
 ghost use Rattle.ax_outside.specs.Memory.{SinkState, is_listed, at_least_one};
 
 use crate::calls::is_listed;
-use crate::sinks::{Sink, SinkFailed};
+use ax_endpoints::{Sink, SinkFailed};
 use std::alloc::{AllocError, Global};
 use std::marker::Model;
 

@@ -1,10 +1,10 @@
 //! A source in memory, for tests and proofs: it tells what it has left.
 ghost use Rattle.std.specs.Prelude.{◌≡◌, ◌+◌, ◌≤◌, ◌<◌, ◌↔◌, ◌++◌, length, take, drop, min, IsTrue, IfOk, IsErr, OnErr, MatchResult};
-ghost use Rattle.ax_outside.specs.Told.{Rose, one_more};
+ghost use Rattle.ax_endpoints.specs.Told.{Rose, one_more};
 ghost use Rattle.ax_outside.specs.Memory.{SourceState, is_listed, most_of_call};
 
 use crate::calls::is_listed;
-use crate::sources::{Source, SourceFailed};
+use ax_endpoints::{Source, SourceFailed};
 use std::marker::Model;
 
 /// A source of octets in memory, whose calls are cut and fail as its maker says.

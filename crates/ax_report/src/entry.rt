@@ -1,10 +1,10 @@
 //! The line of an entry of a block.
 ghost use Rattle.std.specs.Prelude.{◌≡◌, ◌++◌, codes};
-ghost use Rattle.ax_outside.specs.Changes.{Wrote, sink_change};
+ghost use Rattle.ax_endpoints.specs.Changes.{Wrote, sink_change};
 ghost use Rattle.ax_report.specs.Lines.{numbered, entry_line};
 
 use crate::pieces::{write_numbered, write_three};
-use ax_outside::{Sink, SinkFailed, write_text};
+use ax_endpoints::{Sink, SinkFailed, write_text};
 
 /// Writes a space, the path of an entry and the end of its line.
 fn write_path<K: Sink>(sink: &mut K, path: &[u8]) -> Result<(), SinkFailed>
@@ -14,7 +14,7 @@ fn write_path<K: Sink>(sink: &mut K, path: &[u8]) -> Result<(), SinkFailed>
 }
 
 /// Writes the number of a record and the path of its entry, up to the end of the line.
-#[tactic(auto, using(ax_outside::proofs::Pieces::pieces))]
+#[tactic(auto, using(ax_endpoints::proofs::Pieces::pieces))]
 fn write_in_block<K: Sink>(sink: &mut K, record_at: u32, path: &[u8]) -> Result<(), SinkFailed>
     ensures { Wrote (sink_change K.Sink sink.old sink.new) result (numbered (codes " record ") record_at ++ (codes " " ++ (path.now ++ codes "\n"))) }
 {
@@ -23,7 +23,7 @@ fn write_in_block<K: Sink>(sink: &mut K, record_at: u32, path: &[u8]) -> Result<
 }
 
 /// Writes the number of a block and of its record and the path of an entry, up to the end of the line.
-#[tactic(auto, using(ax_outside::proofs::Pieces::pieces))]
+#[tactic(auto, using(ax_endpoints::proofs::Pieces::pieces))]
 fn write_place<K: Sink>(
     sink: &mut K,
     block: u64,
@@ -38,7 +38,7 @@ fn write_place<K: Sink>(
 
 /// Writes the line `WORD block N record M PATH` of an entry, up to its line feed: what is said of the entry in one word, the
 /// number of its block, the number of its record in the block, both from 0, and its path.
-#[tactic(auto, using(ax_outside::proofs::Pieces::pieces))]
+#[tactic(auto, using(ax_endpoints::proofs::Pieces::pieces))]
 pub fn write_entry<K: Sink>(
     sink: &mut K,
     word: &[u8],

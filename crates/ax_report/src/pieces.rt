@@ -1,9 +1,9 @@
 //! Texts and numbers, one after another.
 ghost use Rattle.std.specs.Prelude.{◌≡◌, ◌++◌, codes, decimal};
-ghost use Rattle.ax_outside.specs.Changes.{Wrote, sink_change};
+ghost use Rattle.ax_endpoints.specs.Changes.{Wrote, sink_change};
 ghost use Rattle.ax_report.specs.Lines.{numbered};
 
-use ax_outside::{Sink, SinkFailed, write_text};
+use ax_endpoints::{Sink, SinkFailed, write_text};
 use itoa::Buffer;
 
 /// Writes a number in decimal.
@@ -15,7 +15,7 @@ pub fn write_number<K: Sink>(sink: &mut K, number: u64) -> Result<(), SinkFailed
 }
 
 /// Writes a text and a number after it.
-#[tactic(auto, using(ax_outside::proofs::Pieces::pieces))]
+#[tactic(auto, using(ax_endpoints::proofs::Pieces::pieces))]
 pub fn write_numbered<K: Sink>(sink: &mut K, front: &[u8], number: u64) -> Result<(), SinkFailed>
     ensures { Wrote (sink_change K.Sink sink.old sink.new) result (numbered front.now number) }
 {
@@ -24,7 +24,7 @@ pub fn write_numbered<K: Sink>(sink: &mut K, front: &[u8], number: u64) -> Resul
 }
 
 /// Writes two texts.
-#[tactic(auto, using(ax_outside::proofs::Pieces::pieces))]
+#[tactic(auto, using(ax_endpoints::proofs::Pieces::pieces))]
 pub fn write_two<K: Sink>(sink: &mut K, first: &[u8], second: &[u8]) -> Result<(), SinkFailed>
     ensures { Wrote (sink_change K.Sink sink.old sink.new) result (first.now ++ second.now) }
 {
@@ -33,7 +33,7 @@ pub fn write_two<K: Sink>(sink: &mut K, first: &[u8], second: &[u8]) -> Result<(
 }
 
 /// Writes three texts.
-#[tactic(auto, using(ax_outside::proofs::Pieces::pieces))]
+#[tactic(auto, using(ax_endpoints::proofs::Pieces::pieces))]
 pub fn write_three<K: Sink>(
     sink: &mut K,
     first: &[u8],
@@ -47,7 +47,7 @@ pub fn write_three<K: Sink>(
 }
 
 /// Writes a text and a number after it, and then a text.
-#[tactic(auto, using(ax_outside::proofs::Pieces::pieces))]
+#[tactic(auto, using(ax_endpoints::proofs::Pieces::pieces))]
 pub fn write_numbered_text<K: Sink>(
     sink: &mut K,
     front: &[u8],
@@ -61,7 +61,7 @@ pub fn write_numbered_text<K: Sink>(
 }
 
 /// Writes a line that ends in a number: a text and a number, and again a text and a number.
-#[tactic(auto, using(ax_outside::proofs::Pieces::pieces))]
+#[tactic(auto, using(ax_endpoints::proofs::Pieces::pieces))]
 pub fn write_two_numbers<K: Sink>(
     sink: &mut K,
     front: &[u8],

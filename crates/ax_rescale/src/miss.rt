@@ -1,10 +1,10 @@
 //! What a converted record lacks, and the line of it. Nothing here takes memory.
 ghost use Rattle.std.specs.Prelude.{◌≡◌};
-ghost use Rattle.ax_outside.specs.Changes.{Wrote, sink_change};
+ghost use Rattle.ax_endpoints.specs.Changes.{Wrote, sink_change};
 ghost use Rattle.ax_rescale.specs.Missed.{missed_word, missed_line};
 
 use ax_format::Text;
-use ax_outside::{Sink, SinkFailed};
+use ax_endpoints::{Sink, SinkFailed};
 use ax_report::write_entry;
 
 /// An entry that the converted record doesn't have: the number of its record in the block, from 0, and the text of its path.

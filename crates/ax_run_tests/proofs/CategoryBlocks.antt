@@ -5,8 +5,8 @@ use Rattle.ax_format.specs.Blocks.{opaque_block}
 use Rattle.ax_format.specs.CanonicalOctets.{framed}
 use Rattle.ax_format.specs.Ends.{RawSpells}
 use Rattle.ax_format.specs.Framing.{RawTree}
-use Rattle.ax_outside.specs.Changes.{SinkChange, Wrote}
-use Rattle.ax_outside.specs.declared.sinks.SinkFailed.{SinkFailed}
+use Rattle.ax_endpoints.specs.Changes.{SinkChange, Wrote}
+use Rattle.ax_endpoints.specs.declared.sinks.SinkFailed.{SinkFailed}
 use Rattle.ax_run_tests.specs.Categories.{answer_to, category_command, category_line}
 use Rattle.ax_blocks.proofs.OpaqueBlocks.{raw_framed}
 use Rattle.ax_blocks.specs.Commands.{BlockAnswer, gives, too_long}

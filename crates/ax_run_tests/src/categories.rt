@@ -1,7 +1,7 @@
 //! A made-up block command, which reports a line for each block and refuses some for their length: what stands on both
 //! outputs where a call of either fails.
 ghost use Rattle.std.specs.Prelude.{◌≡◌};
-ghost use Rattle.ax_outside.specs.Changes.{Wrote, sink_change};
+ghost use Rattle.ax_endpoints.specs.Changes.{Wrote, sink_change};
 ghost use Rattle.ax_run_tests.specs.Categories.{category_command, category_line};
 
 use crate::world::{bytes, failing, left_of};

@@ -12,7 +12,7 @@ use Rattle.ax_format.specs.declared.spec.Spec.{Spec}
 use Rattle.ax_show_views.specs.Shown.{ShowsRecords}
 use Rattle.ax_show_views.specs.Listing.{ListsBody}
 use Rattle.ax_show_views.specs.ShowCommand.{show_command, IsListed}
-use Rattle.ax_outside.specs.Changes.{SinkChange}
+use Rattle.ax_endpoints.specs.Changes.{SinkChange}
 use Rattle.ax_blocks.proofs.BlockSteps.{asked_category}
 use Rattle.ax_blocks.proofs.MadeBlocks.{read_made, opaque_made, read_stop, short_stop, tree_taken}
 use Rattle.ax_blocks.specs.Made.{IsMadeRead}

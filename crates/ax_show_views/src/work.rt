@@ -11,7 +11,7 @@ use ax_blocks::{BlockStop, BlockWork, WorkStop, write_piece};
 use ax_canon::blank_output;
 use ax_check::Catalogue;
 use ax_format::RawBlock;
-use ax_outside::Sink;
+use ax_endpoints::Sink;
 use ax_tables::Codecs;
 use ax_text::Lister;
 use std::alloc::{AllocError, Global};

@@ -7,7 +7,7 @@ use Rattle.ax_format.specs.Plain.{spec_tree, catalogue_tree}
 use Rattle.ax_format.specs.Specification.{SpecTree, spec_of}
 use Rattle.ax_format.specs.declared.spec.Spec.{Spec}
 use Rattle.ax_format.specs.declared.fault.BodyFault.{BodyFault}
-use Rattle.ax_outside.specs.Changes.{SinkChange}
+use Rattle.ax_endpoints.specs.Changes.{SinkChange}
 use Rattle.ax_blocks.proofs.BlockSteps.{short_fault}
 use Rattle.ax_blocks.proofs.MadeBlocks.{read_made, opaque_made, tree_taken, tree_fails, tree_memory}
 use Rattle.ax_blocks.specs.BlockTaking.{Takes, WritesOctets}

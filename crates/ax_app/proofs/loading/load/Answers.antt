@@ -1,7 +1,7 @@
 use Rattle.std.proofs.Common.{◌≡◌, sym, subst}
 use Rattle.ax_app.specs.Given.{LineEnds}
 use Rattle.ax_load.specs.Loading.{EitherEnds}
-use Rattle.ax_outside.specs.Changes.{library_counts}
+use Rattle.ax_endpoints.specs.Changes.{library_counts}
 use Rattle.ax_app.proofs.Loads.{ends_both}
 use Rattle.ax_app.proofs.loading.load.Goals as goal
 

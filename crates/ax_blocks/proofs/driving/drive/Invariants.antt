@@ -1,5 +1,5 @@
 use Rattle.std.proofs.Common.{◌-◌, []}
-use Rattle.ax_outside.specs.Changes.{source_change, sink_change}
+use Rattle.ax_endpoints.specs.Changes.{source_change, sink_change}
 use Rattle.ax_blocks.proofs.Runs.{Running}
 use Rattle.ax_blocks.proofs.driving.drive.Given as goal
 

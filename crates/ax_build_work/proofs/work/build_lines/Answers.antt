@@ -4,7 +4,7 @@ use Rattle.ax_lines.proofs.Running.{memory_first}
 use Rattle.ax_lines.specs.Completing.{Completes}
 use Rattle.ax_lines.specs.Ending.{longest_line, longest_input}
 use Rattle.ax_format.specs.Plain.{catalogue_tree}
-use Rattle.ax_outside.specs.Changes.{source_change, sink_change}
+use Rattle.ax_endpoints.specs.Changes.{source_change, sink_change}
 use Rattle.ax_build_work.proofs.work.build_lines.Goals as goal
 
 pub returns-in_default-clause-runs : goal.returns-in_default-clause-runs

@@ -1,4 +1,4 @@
-use Rattle.ax_outside.proofs.Pieces.{same_text}
+use Rattle.ax_endpoints.proofs.Pieces.{same_text}
 use Rattle.std.proofs.Common.{◌++◌, codes, ap}
 use Rattle.ax_command.proofs.lines.write_editions.Goals as goal
 

@@ -1,6 +1,6 @@
 use Rattle.std.proofs.Common.{ap, sym}
 use Rattle.ax_command.specs.Lines.{text_line}
-use Rattle.ax_outside.proofs.Pieces.{same_text}
+use Rattle.ax_endpoints.proofs.Pieces.{same_text}
 use Rattle.ax_command.proofs.lines.write_text_fault.Goals as goal
 
 pub returns-in-BadByte : goal.returns-in-BadByte

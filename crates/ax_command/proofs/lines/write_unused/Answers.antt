@@ -1,5 +1,5 @@
 use Rattle.std.proofs.Common.{◌++◌, codes, ap}
-use Rattle.ax_outside.proofs.Pieces.{same_text}
+use Rattle.ax_endpoints.proofs.Pieces.{same_text}
 use Rattle.ax_command.proofs.lines.write_unused.Goals as goal
 
 pub returns : goal.returns

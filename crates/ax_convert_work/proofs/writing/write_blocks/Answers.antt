@@ -1,6 +1,6 @@
 use Rattle.ax_convert_work.proofs.WrittenLists.{one_failed, one_written}
 use Rattle.ax_convert_work.specs.Making.{octets_in}
-use Rattle.ax_outside.proofs.Pieces.{same_text}
+use Rattle.ax_endpoints.proofs.Pieces.{same_text}
 use Rattle.ax_convert_work.proofs.writing.write_blocks.Goals as goal
 
 pub returns-in_err-write_text : goal.returns-in_err-write_text

@@ -1,7 +1,7 @@
 use Rattle.std.proofs.Common.{◌≡◌, ◌∙◌, ap, subst, refl, arith, Ok, Some, None}
 use Rattle.ax_lines.proofs.Running.{running_begins, run_done, run_refused, run_stopped, run_on, stands_told, unfailed, line_opens, refusal_opens, ends_now, never_refused, refused_there, after_line}
 use Rattle.ax_lines.specs.Standing.{StandsAfter}
-use Rattle.ax_outside.specs.Changes.{source_change}
+use Rattle.ax_endpoints.specs.Changes.{source_change}
 use Rattle.ax_lines.proofs.driving.drive_lines.Goals as goal
 
 pub lines-init : goal.lines-init

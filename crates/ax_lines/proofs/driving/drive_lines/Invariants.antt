@@ -1,6 +1,6 @@
 use Rattle.std.proofs.Common.{◌-◌}
 use Rattle.ax_lines.proofs.Running.{Running}
-use Rattle.ax_outside.specs.Changes.{source_change, sink_change}
+use Rattle.ax_endpoints.specs.Changes.{source_change, sink_change}
 use Rattle.ax_lines.proofs.driving.drive_lines.Given as goal
 
 abbrev pub invariant-lines : goal.invariant-lines

@@ -1,6 +1,6 @@
 use Rattle.std.proofs.Common.{◌≡◌, Some, ℕ, ◌+◌, ◌-◌, ◌++◌, ◌∙◌, sym, subst, ap, take, drop, length, arith}
 use borrow.Rule.Slice.PartMut.{put_mid, same_len_mid}
-use Rattle.ax_outside.specs.Changes.{source_change}
+use Rattle.ax_endpoints.specs.Changes.{source_change}
 use Rattle.ax_lines.specs.Feeds.{IsPlain, IsFeedAt}
 use Rattle.ax_lines.specs.Holding.{HoldsLine}
 use Rattle.ax_lines.proofs.Steps.{StandsPlain, reads_plain, holds_feed, plain_longer, all_put}

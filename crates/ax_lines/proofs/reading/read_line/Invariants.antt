@@ -1,7 +1,7 @@
 use Rattle.std.proofs.Common.{◌≡◌, ◌+◌, ◌-◌, ◌≤◌, length, take, max, vec_capacity}
 use Rattle.ax_lines.specs.Reader.{read_ahead}
 use Rattle.ax_lines.proofs.Steps.{StandsPlain}
-use Rattle.ax_outside.specs.Changes.{source_change}
+use Rattle.ax_endpoints.specs.Changes.{source_change}
 use Rattle.ax_lines.proofs.reading.read_line.Given as goal
 
 abbrev pub invariant-loop-filled : goal.invariant-loop-filled

@@ -1,7 +1,7 @@
 use Rattle.std.proofs.Common.{None, Some, Ok, Err, refl, subst}
 use Rattle.ax_migrate_views.proofs.Keeping.{none_kept}
 use Rattle.ax_migrate_views.specs.Pieces.{FindsTooLong, WritesBlocks}
-use Rattle.ax_outside.specs.Changes.{sink_change}
+use Rattle.ax_endpoints.specs.Changes.{sink_change}
 use Rattle.ax_blocks.proofs.Taken.{all, failed}
 use Rattle.ax_view.specs.Views.{FailsThere}
 use Rattle.ax_migrate_views.proofs.Takings.{block_fails, long_taken, long_cut, record_long}

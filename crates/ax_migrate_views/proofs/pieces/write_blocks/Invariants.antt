@@ -1,6 +1,6 @@
 use Rattle.std.proofs.Common.{◌≡◌, ◌-◌, length}
 use Rattle.ax_migrate_views.proofs.Splitting.{BlocksSoFar}
-use Rattle.ax_outside.specs.Changes.{sink_change}
+use Rattle.ax_endpoints.specs.Changes.{sink_change}
 use Rattle.ax_migrate_views.proofs.pieces.write_blocks.Given as goal
 
 abbrev pub invariant-loop-from : goal.invariant-loop-from

@@ -5,7 +5,7 @@ use Rattle.ax_moves.specs.Lost.{AreRuns}
 use Rattle.ax_moves.specs.Wholes.{whole_entries}
 use Rattle.ax_format.proofs.Namings.{from_place}
 use Rattle.ax_format.specs.Tree.{marked}
-use Rattle.ax_outside.proofs.Pieces.{failed_before, same_text, written_then}
+use Rattle.ax_endpoints.proofs.Pieces.{failed_before, same_text, written_then}
 use Rattle.ax_migrate_views.proofs.writing.+write_keys.Goals as goal
 
 pub returns-then-keys-eq1-clause-written : goal.returns-then-keys-eq1-clause-written

@@ -5,7 +5,7 @@ use Rattle.ax_moves.proofs.LostRuns.{record_lost}
 use Rattle.ax_moves.proofs.Slots.{placed_by}
 use Rattle.ax_migrate_views.proofs.WritingSteps.{entries_shown, never_fails, of_none, of_some}
 use Rattle.ax_moves.specs.Lost.{key_paths}
-use Rattle.ax_outside.proofs.Pieces.{same_text}
+use Rattle.ax_endpoints.proofs.Pieces.{same_text}
 use Rattle.ax_fspec.specs.Reading.{FailsAt, kind_read}
 use Rattle.ax_codec.specs.Table.{record_kind_at}
 use Rattle.ax_codec.specs.declared.codec.Codec.{Codec}

@@ -1,6 +1,6 @@
 use Rattle.std.proofs.Common.{◌∙◌, ap, sym, Some, string_bytes}
 use Rattle.std.specs.Str.{bytes_eq}
-use Rattle.ax_outside.specs.Files.{file}
+use Rattle.ax_endpoints.specs.Files.{file}
 use Rattle.ax_outside.proofs.Named.{found_here, not_here, nowhere}
 use Rattle.ax_outside.proofs.memory_library.first_named.Goals as goal
 

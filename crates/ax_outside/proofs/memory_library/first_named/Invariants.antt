@@ -1,5 +1,5 @@
 use Rattle.std.proofs.Common.{◌≡◌, map, drop, string_bytes}
-use Rattle.ax_outside.specs.Files.{file, octets_of}
+use Rattle.ax_endpoints.specs.Files.{file, octets_of}
 use Rattle.ax_outside.proofs.memory_library.first_named.Given as goal
 
 abbrev pub invariant-loop-key : goal.invariant-loop-key

@@ -1,4 +1,4 @@
-use Rattle.ax_outside.proofs.Pieces.{written_then, failed_before}
+use Rattle.ax_endpoints.proofs.Pieces.{written_then, failed_before}
 use Rattle.std.proofs.Common.{◌++◌, codes}
 use Rattle.ax_report.specs.Lines.{numbered}
 use Rattle.ax_report.proofs.entry.write_place.Goals as goal

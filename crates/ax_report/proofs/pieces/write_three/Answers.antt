@@ -1,4 +1,4 @@
-use Rattle.ax_outside.proofs.Pieces.{written_then}
+use Rattle.ax_endpoints.proofs.Pieces.{written_then}
 use Rattle.ax_report.proofs.pieces.write_three.Goals as goal
 
 pub returns : goal.returns

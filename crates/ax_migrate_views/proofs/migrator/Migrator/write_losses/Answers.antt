@@ -8,7 +8,7 @@ use Rattle.ax_migrate_views.proofs.WritingSteps.{OfCodec, each_codec, front_all,
 use Rattle.ax_migrate_views.specs.Blocks.{old_tree}
 use Rattle.ax_migrate_views.specs.Losses.{shown_losses}
 use Rattle.ax_moves.specs.Lost.{key_paths}
-use Rattle.ax_outside.proofs.Pieces.{nothing_written}
+use Rattle.ax_endpoints.proofs.Pieces.{nothing_written}
 use Rattle.ax_codec.specs.Table.{record_kind_at}
 use Rattle.ax_codec.specs.declared.codec.Codec.{Codec}
 use Rattle.ax_view.specs.Left.{record_shown, records_left}

@@ -1,8 +1,8 @@
 -- What a sink gains by one change and another after it.
 use Rattle.std.proofs.Common.{◌≡◌, ℕ, List, [], ◌++◌, Option, take, sym, ◌∙◌, ap}
-use Rattle.ax_outside.proofs.Ends.{with_end-nil, with_end-append}
-use Rattle.ax_outside.specs.Changes.{SinkChange, Gains, GainsNothing, GainsPart, GainsWithPart}
-use Rattle.ax_outside.specs.Told.{with_end}
+use Rattle.ax_endpoints.proofs.Ends.{with_end-nil, with_end-append}
+use Rattle.ax_endpoints.specs.Changes.{SinkChange, Gains, GainsNothing, GainsPart, GainsWithPart}
+use Rattle.ax_endpoints.specs.Told.{with_end}
 
 -- a change, and another after it
 abbrev pub both : SinkChange → SinkChange → SinkChange

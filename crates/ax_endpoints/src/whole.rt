@@ -1,6 +1,6 @@
 //! Whole pieces and whole buffers, however the calls below cut them.
 ghost use Rattle.std.specs.Prelude.{◌≡◌, ℕ, ◌+◌, ◌<◌, ◌≤◌, length, take, IfOk, OnOk, OnErr};
-ghost use Rattle.ax_outside.specs.Told.{with_front, with_end, IsAtEnd, Rose};
+ghost use Rattle.ax_endpoints.specs.Told.{with_front, with_end, IsAtEnd, Rose};
 
 use crate::sinks::{Sink, SinkFailed};
 use crate::sources::{Source, SourceFailed};

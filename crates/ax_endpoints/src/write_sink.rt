@@ -1,7 +1,7 @@
 //! A sink over a writer.
 ghost use Rattle.std.specs.Prelude.{◌≡◌, ◌+◌, ◌<◌, ◌≤◌, length, take, IfOk, OnErr, MatchResult};
 ghost use Rattle.std.specs.Io.KnownBytes.{Appends};
-ghost use Rattle.ax_outside.specs.Told.{Rose, one_more};
+ghost use Rattle.ax_endpoints.specs.Told.{Rose, one_more};
 
 use crate::sinks::{Sink, SinkFailed};
 use std::io::Write;

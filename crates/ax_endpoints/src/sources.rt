@@ -1,6 +1,6 @@
 //! What octets are read from.
 ghost use Rattle.std.specs.Prelude.{◌≡◌, ℕ, ◌+◌, ◌<◌, ◌≤◌, List, [], Option, Some, length, take, IfOk, OnErr, MatchResult};
-ghost use Rattle.ax_outside.specs.Told.{with_front, IsAtEnd, Rose};
+ghost use Rattle.ax_endpoints.specs.Told.{with_front, IsAtEnd, Rose};
 
 /// A read failed, and nothing was taken.
 #[derive(Clone, Copy, Debug, PartialEq, Eq)]

@@ -1,7 +1,7 @@
 //! A source over a reader.
 ghost use Rattle.std.specs.Prelude.{◌≡◌, ◌+◌, ◌≤◌, ◌<◌, length, take, IfOk, OnErr, MatchResult};
 ghost use Rattle.std.specs.Io.KnownBytes.{Consumes, IsAtEnd};
-ghost use Rattle.ax_outside.specs.Told.{Rose, one_more};
+ghost use Rattle.ax_endpoints.specs.Told.{Rose, one_more};
 
 use crate::sources::{Source, SourceFailed};
 use std::io::Read;

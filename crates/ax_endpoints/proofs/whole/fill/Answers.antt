@@ -1,6 +1,6 @@
 use Rattle.std.proofs.Common.{◌∙◌, arith}
-use Rattle.ax_outside.proofs.Ends.{more_taken, still_within}
-use Rattle.ax_outside.proofs.whole.fill.Goals as goal
+use Rattle.ax_endpoints.proofs.Ends.{more_taken, still_within}
+use Rattle.ax_endpoints.proofs.whole.fill.Goals as goal
 
 pub loop-filled-preserved : goal.loop-filled-preserved
 loop-filled-preserved g c = (

@@ -1,6 +1,6 @@
 use Rattle.std.proofs.Common.{◌≡◌, ◌+◌, ◌≤◌, ◌-◌, length, take}
-use Rattle.ax_outside.specs.Told.{with_front}
-use Rattle.ax_outside.proofs.whole.fill.Given as goal
+use Rattle.ax_endpoints.specs.Told.{with_front}
+use Rattle.ax_endpoints.proofs.whole.fill.Given as goal
 
 abbrev pub invariant-loop-filled : goal.invariant-loop-filled
 invariant-loop-filled g l =

@@ -3,7 +3,7 @@ use Rattle.std.proofs.Common.{◌≡◌, ℕ, ◌+◌, ◌-◌, ◌≤◌, List,
 use Rattle.std.proofs.Math.Seq.{take-append-add, take-length}
 use Rattle.std.proofs.lemmas.List.{take-append-le, take-append-drop}
 use borrow.Rule.Slice.PartMut.{put_mid, post_of}
-use Rattle.ax_outside.specs.Told.{with_front, with_end, Rose}
+use Rattle.ax_endpoints.specs.Told.{with_front, with_end, Rose}
 
 -- nothing is added
 pub with_end-nil : (t : Option (List ℕ)) → with_end t [] ≡ t

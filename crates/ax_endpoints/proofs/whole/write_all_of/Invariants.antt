@@ -1,6 +1,6 @@
 use Rattle.std.proofs.Common.{◌≡◌, ◌≤◌, ◌-◌, length, take}
-use Rattle.ax_outside.specs.Told.{with_end}
-use Rattle.ax_outside.proofs.whole.write_all_of.Given as goal
+use Rattle.ax_endpoints.specs.Told.{with_end}
+use Rattle.ax_endpoints.proofs.whole.write_all_of.Given as goal
 
 abbrev pub invariant-loop-at : goal.invariant-loop-at
 invariant-loop-at g l =

@@ -1,6 +1,6 @@
 //! What octets are written to.
 ghost use Rattle.std.specs.Prelude.{◌≡◌, ℕ, ◌+◌, ◌<◌, ◌≤◌, List, Option, length, take, IfOk, OnErr};
-ghost use Rattle.ax_outside.specs.Told.{with_end, Rose};
+ghost use Rattle.ax_endpoints.specs.Told.{with_end, Rose};
 
 /// A write failed, and nothing was added.
 #[derive(Clone, Copy, Debug, PartialEq, Eq)]

@@ -2,10 +2,10 @@
 use Rattle.std.proofs.Common.{◌≡◌, ℕ, ◌+◌, ◌<◌, ◌≤◌, List, ◌++◌, Option, length, take, refl, sym, ◌∙◌, ap, arith, length-append, Result, Ok, Err, OnOk, OnErr, IsErr, [], subst}
 use Rattle.std.proofs.Math.Seq.{take-append-add}
 use Rattle.std.proofs.lemmas.List.{take-append-le}
-use Rattle.ax_outside.specs.Told.{with_end, Rose}
-use Rattle.ax_outside.proofs.Ends.{with_end-nil, with_end-append, Rose-later}
-use Rattle.ax_outside.specs.Changes.{SinkChange, GainsPart, Wrote}
-use Rattle.ax_outside.specs.declared.sinks.SinkFailed.{SinkFailed}
+use Rattle.ax_endpoints.specs.Told.{with_end, Rose}
+use Rattle.ax_endpoints.proofs.Ends.{with_end-nil, with_end-append, Rose-later}
+use Rattle.ax_endpoints.specs.Changes.{SinkChange, GainsPart, Wrote}
+use Rattle.ax_endpoints.specs.declared.sinks.SinkFailed.{SinkFailed}
 
 abbrev pub change : Option (List ℕ) → Option (List ℕ) → ℕ → ℕ → SinkChange
 change held held' faults faults' = record { held = held; held' = held'; faults = faults; faults' = faults' }

@@ -1,6 +1,6 @@
 use Rattle.std.proofs.Common.{◌∙◌, arith, length-drop}
-use Rattle.ax_outside.proofs.Ends.{more_added}
-use Rattle.ax_outside.proofs.whole.write_all_of.Goals as goal
+use Rattle.ax_endpoints.proofs.Ends.{more_added}
+use Rattle.ax_endpoints.proofs.whole.write_all_of.Goals as goal
 
 pub loop-at-preserved : goal.loop-at-preserved
 loop-at-preserved g c = (

@@ -1,10 +1,10 @@
 -- What is told and counted of an object of the outside, before and after.
 use Rattle.std.specs.Prelude.{◌≡◌, ℕ, ◌+◌, ◌<◌, ◌≤◌, List, ◌++◌, length, take, Option, Result, OnOk, OnErr}
-use Rattle.ax_outside.specs.Told.{with_end, Rose}
-use Rattle.ax_outside.specs.declared.libraries.Library as LibraryOf
-use Rattle.ax_outside.specs.declared.sinks.Sink as SinkOf
-use Rattle.ax_outside.specs.declared.sinks.SinkFailed.{SinkFailed}
-use Rattle.ax_outside.specs.declared.sources.Source as SourceOf
+use Rattle.ax_endpoints.specs.Told.{with_end, Rose}
+use Rattle.ax_endpoints.specs.declared.libraries.Library as LibraryOf
+use Rattle.ax_endpoints.specs.declared.sinks.Sink as SinkOf
+use Rattle.ax_endpoints.specs.declared.sinks.SinkFailed.{SinkFailed}
+use Rattle.ax_endpoints.specs.declared.sources.Source as SourceOf
 
 -- ---- a library: a call leaves its files as they were
 

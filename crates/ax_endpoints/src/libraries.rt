@@ -1,8 +1,8 @@
 //! What files are loaded from.
 ghost use Rattle.std.specs.Prelude.{◌≡◌, ℕ, ◌+◌, ◌≤◌, ◌⊎◌, List, Option, length, IfOk, OnErr, IsErrOf, IsSome};
-ghost use Rattle.ax_outside.specs.Told.{Rose, number_after};
-ghost use Rattle.ax_outside.specs.Files.{File, HoldsFile, Lacks, IsLonger, TooMany};
-ghost use Rattle.ax_outside.specs.declared.libraries.LoadError.TheVariants.{Failed, TooLarge, OutOfMemory};
+ghost use Rattle.ax_endpoints.specs.Told.{Rose, number_after};
+ghost use Rattle.ax_endpoints.specs.Files.{File, HoldsFile, Lacks, IsLonger, TooMany};
+ghost use Rattle.ax_endpoints.specs.declared.libraries.LoadError.TheVariants.{Failed, TooLarge, OutOfMemory};
 
 use std::alloc::{AllocError, Global};
 

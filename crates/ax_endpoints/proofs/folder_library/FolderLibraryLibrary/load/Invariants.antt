@@ -1,5 +1,5 @@
 use Rattle.std.proofs.Common.{◌≡◌, ◌+◌, ◌-◌, vec_len}
-use Rattle.ax_outside.proofs.folder_library.FolderLibraryLibrary.load.Given as goal
+use Rattle.ax_endpoints.proofs.folder_library.FolderLibraryLibrary.load.Given as goal
 
 abbrev pub invariant-loop-part : goal.invariant-loop-part
 invariant-loop-part g l = (l.self.taken ≡ l.fn.self.taken + vec_len l.octets) × (l.self.faults ≡ l.fn.self.faults)

@@ -1,7 +1,7 @@
 //! A library over the files of a folder.
 ghost use Rattle.std.specs.Prelude.{◌≡◌, ◌≢◌, ◌+◌, ◌<◌, ◌≤◌, ◌⊎◌, length, IfOk, IsErrOf};
-ghost use Rattle.ax_outside.specs.Told.{Rose, one_more, number_after};
-ghost use Rattle.ax_outside.specs.declared.libraries.LoadError.TheVariants.{Failed, TooLarge};
+ghost use Rattle.ax_endpoints.specs.Told.{Rose, one_more, number_after};
+ghost use Rattle.ax_endpoints.specs.declared.libraries.LoadError.TheVariants.{Failed, TooLarge};
 
 use crate::libraries::{Library, LoadError};
 use std::alloc::Global;

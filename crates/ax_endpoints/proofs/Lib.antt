@@ -1,0 +1,3 @@
+pub mod Ends
+pub mod Gains
+pub mod Pieces

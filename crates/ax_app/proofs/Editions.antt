@@ -4,7 +4,7 @@ use Rattle.ax_command.specs.declared.outcome.JobStop.{JobStop}
 use Rattle.ax_command.specs.declared.outcome.Outcome.{Outcome}
 use Rattle.ax_command.specs.declared.outcome.Refusal.TheVariants.{OtherCategory}
 use Rattle.ax_convert_work.specs.ConvertCommand.{convert_command}
-use Rattle.ax_migrate.specs.Commands.{migrate_command}
+use Rattle.ax_migration.specs.Commands.{migrate_command}
 use Rattle.ax_format.specs.Plain.{spec_tree}
 use Rattle.ax_format.specs.Specification.{SpecTree}
 use Rattle.ax_format.specs.declared.spec.Spec.{Spec}

@@ -14,7 +14,7 @@ use Rattle.ax_lines.specs.declared.end.LinesEnd.{LinesEnd}
 use Rattle.ax_lines.specs.declared.end.LinesEnd.TheVariants as LinesEndOf
 use Rattle.ax_load.specs.declared.fault.LoadStop.{LoadStop}
 use Rattle.ax_load.specs.declared.fault.LoadStop.TheVariants as LoadStopOf
-use Rattle.ax_migrate.specs.Commands.{migrate_command}
+use Rattle.ax_migration.specs.Commands.{migrate_command}
 use Rattle.ax_format.specs.Blocks.{BlockTree, read_block, opaque_block}
 use Rattle.ax_format.specs.Specification.{SpecTree}
 use Rattle.ax_endpoints.specs.Changes.{LibraryCounts, SourceChange, SinkChange}

@@ -24,7 +24,7 @@ use Rattle.ax_lines.specs.Commands.{LineAnswer}
 use Rattle.ax_lines.specs.Ending.{longest_line}
 use Rattle.ax_lines.specs.Runs.{LinesAnswer, LinesRun}
 use Rattle.ax_lines.specs.declared.end.LinesEnd.{LinesEnd}
-use Rattle.ax_migrate.specs.Commands.{migrate_command}
+use Rattle.ax_migration.specs.Commands.{migrate_command}
 use Rattle.ax_format.specs.Blocks.{BlockTree}
 use Rattle.ax_format.specs.Specification.{SpecTree}
 use Rattle.ax_endpoints.specs.Changes.{SourceChange, SinkChange, IsUntouched, Gains, GainsNothing, GainsPart}

@@ -13,7 +13,7 @@ use Rattle.ax_app.specs.declared.work.Work.{Work}
 use Rattle.ax_filter.specs.OfCode.{catalogue_of, expression}
 use Rattle.ax_filter_work.specs.FilterCommand.{filter_command}
 use Rattle.ax_migrate_views.specs.Blocks.{new_tree, old_tree}
-use Rattle.ax_migrate.specs.Commands.{migrate_command}
+use Rattle.ax_migration.specs.Commands.{migrate_command}
 use Rattle.ax_format.specs.Blocks.{BlockTree, SpellsStream}
 use Rattle.ax_format.specs.Plain.{catalogue_tree}
 use Rattle.ax_endpoints.specs.Changes.{SourceChange, SinkChange, Gains}

@@ -3,7 +3,7 @@ ghost use Rattle.std.specs.Prelude.{◌≡◌, ◌≤◌, ◌^◌, [], ◌∷◌
 ghost use Rattle.ax_relation.specs.Relates.{Relates};
 ghost use Rattle.ax_filter.specs.OfCode.{catalogue_of};
 ghost use Rattle.ax_grammar.specs.InRange.{AreNumbersInRange};
-ghost use Rattle.ax_migrate.specs.Commands.{migrate_command};
+ghost use Rattle.ax_migration.specs.Commands.{migrate_command};
 ghost use Rattle.ax_format.specs.Plain.{spec_tree, catalogue_tree};
 ghost use Rattle.ax_endpoints.specs.Changes.{sink_change, GainsNothing};
 ghost use Rattle.ax_command.specs.declared.outcome.JobStop.TheVariants.{OutOfMemory};

@@ -9,11 +9,11 @@ use Rattle.ax_convert_work.specs.Standing.{MayConvert, TellsMayConvert}
 use Rattle.ax_relation.proofs.Once.{moved_migrated}
 use Rattle.ax_relation.proofs.SmallBlocks.{migrated_is_small}
 use Rattle.ax_relation.specs.Moved.{moved_record}
-use Rattle.ax_migrate.specs.Losing.{loss, losses_from, lost_line, lost_lines}
+use Rattle.ax_migration.specs.Losing.{loss, losses_from, lost_line, lost_lines}
 use Rattle.ax_migrate_views.specs.Blocks.{old_tree, new_tree}
 use Rattle.ax_migrate_views.specs.declared.migrator.Migrator.{Migrator}
-use Rattle.ax_migrate.specs.Commands as Migrate
-use Rattle.ax_migrate.specs.Commands.{migrate_command}
+use Rattle.ax_migration.specs.Commands as Migrate
+use Rattle.ax_migration.specs.Commands.{migrate_command}
 use Rattle.ax_format.proofs.CanonFramed.{length-framed}
 use Rattle.ax_format.proofs.RecordLaws.{record_shape, record_canon_shortest}
 use Rattle.ax_format.specs.Blocks.{BlockTree, read_block, opaque_block}

@@ -78,7 +78,7 @@ impl<'m, 'c> ConvertBlocks<'m, 'c> {
 
 impl<'m, 'c> BlockWork for ConvertBlocks<'m, 'c> {
     ghost use Rattle.std.specs.Prelude.{true};
-    ghost use Rattle.ax_migrate.specs.Commands.{migrate_command};
+    ghost use Rattle.ax_migration.specs.Commands.{migrate_command};
 
     ghost command = { λ s. convert_command (old_tree s.migrator.now) (new_tree s.migrator.now) };
 

@@ -2,7 +2,7 @@
 ghost use Rattle.std.specs.Prelude.{◌≡◌, ℕ, List, [], ◌∷◌, None, Some, false};
 ghost use Rattle.ax_convert_work.specs.ConvertCommand.{convert_command, told_answer, told_octets, unless_too_long};
 ghost use Rattle.ax_convert_work.specs.Standing.{MayConvert};
-ghost use Rattle.ax_migrate.specs.Commands.{migrate_command};
+ghost use Rattle.ax_migration.specs.Commands.{migrate_command};
 ghost use Rattle.ax_format.specs.Blocks.{BlockTree, Fits, read_block, opaque_block};
 ghost use Rattle.ax_format.specs.CanonicalOctets.{framed};
 ghost use Rattle.ax_format.specs.Ends.{RawSpells};

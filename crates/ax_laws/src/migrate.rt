@@ -3,8 +3,8 @@ ghost use Rattle.std.specs.Prelude.{◌≡◌, ◌↔◌};
 ghost use Rattle.ax_relation.specs.PlainMoves.{moves_tree};
 ghost use Rattle.ax_relation.specs.Relates.{Relates};
 ghost use Rattle.ax_relation.specs.declared.relation.Relation.{Relation};
-ghost use Rattle.ax_migrate.specs.Migrating.{migrated_block};
-ghost use Rattle.ax_migrate.specs.Moving.{entries_by};
+ghost use Rattle.ax_migration.specs.Migrating.{migrated_block};
+ghost use Rattle.ax_migration.specs.Moving.{entries_by};
 ghost use Rattle.ax_format.specs.Blocks.{BlockTree, Fits};
 ghost use Rattle.ax_format.specs.Bodies.{RecordShape};
 ghost use Rattle.ax_format.specs.Flaws.{NoFlaw};
@@ -15,7 +15,7 @@ ghost use Rattle.ax_format.specs.Tree.{EntriesTree};
 ghost use Rattle.ax_format.specs.declared.spec.Spec.{Spec};
 
 /// A block that fits the old edition has exactly one migrated block.
-#[tactic(auto, using(ax_migrate::proofs::OneBlock::block_is_migrated, ax_migrate::proofs::OneBlock::migrated_is_block))]
+#[tactic(auto, using(ax_migration::proofs::OneBlock::block_is_migrated, ax_migration::proofs::OneBlock::migrated_is_block))]
 pub fn migrates_to_one_block()
     ensures { (old new : SpecTree) (block made : BlockTree) → NoFlaw new → Fits old block
         → MigratedBlock old new block made ↔ made ≡ migrated_block old new block }

@@ -1,7 +1,7 @@
 //! Worked examples of losses of blocks. Each function stands for what its contract says.
 ghost use Rattle.std.specs.Prelude.{◌≡◌, [], ◌∷◌, codes};
-ghost use Rattle.ax_migrate.specs.Losing.{block_losses, lost_line};
-ghost use Rattle.ax_migrate.specs.Migrating.{migrated_block};
+ghost use Rattle.ax_migration.specs.Losing.{block_losses, lost_line};
+ghost use Rattle.ax_migration.specs.Migrating.{migrated_block};
 ghost use Rattle.ax_format.specs.Blocks.{read_block, opaque_block};
 ghost use Rattle.ax_format.specs.EditionExamples.{first_edition, third_edition, both_subitems};
 ghost use Rattle.ax_format.specs.Tree.{no_entries};

@@ -1,7 +1,7 @@
 //! The laws of `migrate`. Each function stands for what its contract says.
 ghost use Rattle.std.specs.Prelude.{◌≡◌, ℕ, ◌≤◌, List, [], None, Some};
-ghost use Rattle.ax_migrate.specs.Losing.{block_losses, lost_lines};
-ghost use Rattle.ax_migrate.specs.Commands.{migrate_command};
+ghost use Rattle.ax_migration.specs.Losing.{block_losses, lost_lines};
+ghost use Rattle.ax_migration.specs.Commands.{migrate_command};
 ghost use Rattle.ax_format.specs.Blocks.{BlockTree, Fits, read_block, opaque_block};
 ghost use Rattle.ax_format.specs.CanonicalOctets.{canon_block, canon_length, framed};
 ghost use Rattle.ax_format.specs.Flaws.{NoFlaw};
@@ -16,7 +16,7 @@ ghost use Rattle.ax_blocks.specs.Commands.{gives, too_long};
 /// the octets of the blocks that the migrated records are split into; or the octets of the first migrated record that has too
 /// many for a block of its own. A migrated block of at most 65,535 octets is the one block. An opaque block is answered as it
 /// is.
-#[tactic(auto, using(ax_migrate::proofs::Answering::answers))]
+#[tactic(auto, using(ax_migration::proofs::Answering::answers))]
 pub fn migrate_answers_by_the_migrated_block()
     ensures split { (old new : SpecTree) (number category : ℕ) (records made : List EntriesTree) → NoFlaw new
         → Fits old (read_block category records) → MigratedBlock old new (read_block category records) (read_block category made)

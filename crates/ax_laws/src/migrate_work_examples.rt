@@ -1,6 +1,6 @@
 //! A worked example of `migrate`. The function stands for what its contract says.
 ghost use Rattle.std.specs.Prelude.{◌≡◌, [], ◌∷◌, Some, codes};
-ghost use Rattle.ax_migrate.specs.Commands.{migrate_command, unless_too_long};
+ghost use Rattle.ax_migration.specs.Commands.{migrate_command, unless_too_long};
 ghost use Rattle.ax_format.specs.Blocks.{read_block, opaque_block};
 ghost use Rattle.ax_format.specs.EditionExamples.{first_edition, second_edition, both_subitems};
 ghost use Rattle.ax_blocks.specs.Commands.{gives, too_long};

@@ -6,7 +6,7 @@ use Rattle.ax_relation.proofs.MovedNamed.{source_value, new_value}
 use Rattle.ax_relation.proofs.MovedShape.{slot_shape}
 use Rattle.ax_format.specs.Same.{common_parts}
 use Rattle.ax_relation.specs.Moved.{entry_where, moved, moved_entries}
-use Rattle.ax_migrate.specs.Moving.{entries_by}
+use Rattle.ax_migration.specs.Moving.{entries_by}
 use Rattle.ax_relation.specs.Passing.{value_by}
 use Rattle.ax_format.specs.At.{slot_value}
 use Rattle.ax_format.specs.Naming.{slot_named}

@@ -7,11 +7,11 @@ use Rattle.ax_relation.specs.Relates.{Relates}
 use Rattle.ax_relation.specs.declared.moves.Move.{Move}
 use Rattle.ax_relation.specs.declared.relation.Relation.{Relation}
 use Rattle.ax_migrate.proofs.ByMoves.{entries_moved}
-use Rattle.ax_migrate.proofs.Found.{all_found}
-use Rattle.ax_migrate.specs.Finding.{found_losses}
-use Rattle.ax_migrate.specs.Migrating.{records_by, BlockMigrated, losses_of}
-use Rattle.ax_migrate.specs.Moving.{entries_by}
-use Rattle.ax_migrate.specs.declared.losing.LossEntry.{LossEntry}
+use Rattle.ax_migration.proofs.Found.{all_found}
+use Rattle.ax_migration.specs.Finding.{found_losses}
+use Rattle.ax_migration.specs.Migrating.{records_by, BlockMigrated, losses_of}
+use Rattle.ax_migration.specs.Moving.{entries_by}
+use Rattle.ax_migration.specs.declared.losses.LossEntry.{LossEntry}
 use Rattle.ax_format.specs.Blocks.{BlockTree, read_block, opaque_block, Fits}
 use Rattle.ax_format.specs.Bodies.{RecordShape}
 use Rattle.ax_format.specs.OfCode.{BlockFits}

@@ -1,22 +1,12 @@
 //! What a record loses.
 ghost use Rattle.std.specs.Prelude.{◌≡◌, ◌++◌, OnOk};
-ghost use Rattle.ax_migrate.specs.Finding.{path_loss, record_losses};
+ghost use Rattle.ax_migration.specs.Finding.{path_loss, record_losses};
 ghost use Rattle.ax_format.specs.Plain.{entries_tree, record_tree};
 
-use ax_format::{Entries, Record, Text};
-use ax_lists::Sequence;
+use ax_format::{Entries, Record};
+use ax_migration::{LossEntry, LossList};
 use ax_relation::{RelationPath, RelationPaths, is_there};
 use std::alloc::{AllocError, Global};
-
-/// A lost entry: the number of its record in the block, from 0, and the text of its path.
-#[derive(Drop)]
-pub struct LossEntry {
-    pub record_at: u32,
-    pub path: Text,
-}
-
-/// Losses, by record and, in a record, by ascending field reference number, a compound before its subitems, an extended item before its parts.
-pub type LossList = Sequence<LossEntry>;
 
 /// Appends the loss at a path, if there is one. A list of more than 2^32 - 1 losses is a want of memory.
 fn lose_path(

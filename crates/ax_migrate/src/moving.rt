@@ -1,7 +1,7 @@
 //! Values and entries of the old edition, as they move to the new one.
 ghost use Rattle.std.specs.Prelude.{◌≡◌, ◌++◌, map, IfOk, OnOk};
 ghost use Rattle.ax_relation.specs.PlainMoves.{move_tree, moves_tree};
-ghost use Rattle.ax_migrate.specs.Moving.{entries_by, move_entries, moved_by};
+ghost use Rattle.ax_migration.specs.Moving.{entries_by, move_entries, moved_by};
 ghost use Rattle.ax_format.specs.Plain.{value_tree, entry_tree, entries_tree};
 
 use ax_format::{Entries, Entry, Value};

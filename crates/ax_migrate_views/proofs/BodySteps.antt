@@ -9,9 +9,9 @@ use Rattle.ax_relation.specs.Moves.{MovesTree}
 use Rattle.ax_relation.specs.PlainMoves.{moves_tree}
 use Rattle.ax_relation.specs.declared.moves.Move.{Move}
 use Rattle.ax_relation.specs.declared.relation.RelationPath.{RelationPath}
-use Rattle.ax_migrate.specs.Finding.{record_losses, found_losses}
-use Rattle.ax_migrate.specs.Losing.{lost_line, lost_lines}
-use Rattle.ax_migrate.specs.declared.losing.LossEntry.{LossEntry}
+use Rattle.ax_migration.specs.Finding.{record_losses, found_losses}
+use Rattle.ax_migration.specs.Losing.{lost_line, lost_lines}
+use Rattle.ax_migration.specs.declared.losses.LossEntry.{LossEntry}
 use Rattle.ax_migrate_views.proofs.GonePaths.{found_more}
 use Rattle.ax_moves.proofs.LaidRuns.{LaidRun, run_first, run_last}
 use Rattle.ax_moves.proofs.ToldLines.{gathers_none, gathers_then, told_same}

@@ -2,7 +2,7 @@
 use Rattle.std.proofs.Common.{◌≡◌, ℕ, suc, ◌+◌, ◌<◌, ◌≤◌, ◌&&◌, cond, arith, Bool, true, false, is_none, is_some, List, [], ◌∷◌, ◌++◌, length, drop, get_or, Option, Some, None, refl, sym, ◌∙◌, ap, append_assoc, append-nil}
 use Rattle.std.proofs.lemmas.List.{drop_all}
 use Rattle.ax_relation.specs.declared.relation.RelationPath.{RelationPath}
-use Rattle.ax_migrate.specs.Finding.{path_loss, record_losses, found_losses}
+use Rattle.ax_migration.specs.Finding.{path_loss, record_losses, found_losses}
 use Rattle.ax_relation.specs.Standing.{is_there}
 use Rattle.ax_moves.specs.Gone.{gone, gone_of}
 use Rattle.ax_format.proofs.Namings.{from_place}

@@ -22,8 +22,8 @@ use Rattle.ax_moves.proofs.Slots.{table_kind}
 use Rattle.ax_moves.proofs.SubitemsStay.{RemainsHere, is_few, is_in, those_stay}
 use Rattle.ax_moves.proofs.TellingSteps.{none_shared}
 use Rattle.ax_moves.proofs.ToldLines.{told_nothing}
-use Rattle.ax_migrate.specs.Finding.{record_losses}
-use Rattle.ax_migrate.specs.Losing.{lost_lines}
+use Rattle.ax_migration.specs.Finding.{record_losses}
+use Rattle.ax_migration.specs.Losing.{lost_lines}
 use Rattle.ax_moves.specs.BySlot.{ascends, run_octets}
 use Rattle.ax_migrate_views.specs.Kept.{HasFew, HasFewThere, IsElsewhere, IsKeptAt, IsKeptRecord, IsPast, IsPastPart, KeepsRecords, OfEach, OthersStay, ShortStay, StaysShort}
 use Rattle.ax_moves.specs.Laying.{Gathers}

@@ -5,10 +5,10 @@ use Rattle.std.proofs.lemmas.List.Concat.{flat_map-append}
 use Rattle.ax_bits.proofs.Words.{length-bits}
 use Rattle.ax_bits.specs.Bits.{bits}
 use Rattle.ax_relation.specs.declared.relation.RelationPath.{RelationPath}
-use Rattle.ax_migrate.specs.Finding.{path_loss, record_losses}
+use Rattle.ax_migration.specs.Finding.{path_loss, record_losses}
 use Rattle.ax_relation.specs.Standing.{value_below, is_there}
-use Rattle.ax_migrate.specs.Losing.{lost_line, lost_lines}
-use Rattle.ax_migrate.specs.declared.losing.LossEntry.{LossEntry}
+use Rattle.ax_migration.specs.Losing.{lost_line, lost_lines}
+use Rattle.ax_migration.specs.declared.losses.LossEntry.{LossEntry}
 use Rattle.ax_migrate_views.specs.Losses.{shown_losses, losses_here}
 use Rattle.ax_migrate_views.specs.declared.losses.RecordLosses.{RecordLosses}
 use Rattle.ax_format.proofs.BodyReader.{compound_some}

@@ -12,8 +12,8 @@ use Rattle.ax_relation.specs.PlainMoves.{moves_tree}
 use Rattle.ax_relation.proofs.Once.{moved_migrated}
 use Rattle.ax_relation.proofs.SmallBlocks.{migrated_is_small}
 use Rattle.ax_relation.specs.Moved.{moved_record}
-use Rattle.ax_migrate.proofs.OneBlock.{block_is_migrated}
-use Rattle.ax_migrate.specs.Migrating.{migrated_block}
+use Rattle.ax_migration.proofs.OneBlock.{block_is_migrated}
+use Rattle.ax_migration.specs.Migrating.{migrated_block}
 use Rattle.ax_moves.proofs.MovedCanon.{record_canon_moved}
 use Rattle.ax_migrate_views.specs.Blocks.{with_head, old_tree, new_tree, IsOfEditions, IsMigratedBlock, LaysMigrated}
 use Rattle.ax_migrate_views.specs.Bodies.{body_by, LaysBody}

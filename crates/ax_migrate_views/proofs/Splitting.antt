@@ -8,7 +8,7 @@ use Rattle.ax_migrate_views.specs.Blocks.{old_tree, new_tree}
 use Rattle.ax_migrate_views.specs.Ranges.{made_of, made_from, made_range, FitsFrom, HasRecords, LaysRange}
 use Rattle.ax_migrate_views.specs.declared.migrator.Migrator.{Migrator}
 use Rattle.ax_migrate_views.specs.declared.ranges.Fit.{Fit}
-use Rattle.ax_migrate.proofs.LongRecords.{too_long_later}
+use Rattle.ax_migration.proofs.LongRecords.{too_long_later}
 use Rattle.ax_format.proofs.SplitFronts.{empty_length, fit_few, fit_fits}
 use Rattle.ax_format.proofs.SplitLists.{by_fit}
 use Rattle.ax_format.specs.Blocks.{read_block}

@@ -4,14 +4,14 @@ use Rattle.std.proofs.lemmas.Bool.{eqb-true}
 use Rattle.std.proofs.lemmas.List.{take-append-le, take-take}
 use Rattle.ax_bits.specs.Bits.{bits}
 use Rattle.ax_relation.proofs.Lookups.{equal}
-use Rattle.ax_migrate.specs.Losing.{losses_from, lost_lines}
+use Rattle.ax_migration.specs.Losing.{losses_from, lost_lines}
 use Rattle.ax_migrate_views.specs.Pieces.{FindsTooLong, WritesBlocks}
 use Rattle.ax_migrate_views.specs.Blocks.{old_tree, new_tree, IsOfEditions, IsMigratedBlock, LaysMigrated}
 use Rattle.ax_migrate_views.specs.Losses.{TellsLosses, WritesLosses}
 use Rattle.ax_migrate_views.specs.declared.migrator.Migrator.{Migrator}
 use Rattle.ax_migrate_views.specs.Ranges.{made_of}
-use Rattle.ax_migrate.proofs.Answering.{answers_one}
-use Rattle.ax_migrate.specs.Commands.{migrate_command, unless_too_long}
+use Rattle.ax_migration.proofs.Answering.{answers_one}
+use Rattle.ax_migration.specs.Commands.{migrate_command, unless_too_long}
 use Rattle.ax_format.proofs.Once.{body_never_both}
 use Rattle.ax_format.specs.Blocks.{BlockTree, read_block, opaque_block}
 use Rattle.ax_format.specs.Bodies.{SpellsBody}

@@ -7,10 +7,10 @@ use Rattle.ax_relation.specs.declared.relation.RelationPath.{RelationPath}
 use Rattle.ax_canon.proofs.Patching.{body_shape}
 use Rattle.ax_relation.proofs.Distinct.{Distinct}
 use Rattle.ax_relation.proofs.DistinctNames.{record_distinct}
-use Rattle.ax_migrate.proofs.Found.{all_found, found_is_lost}
-use Rattle.ax_migrate.specs.Finding.{found_losses, record_losses}
-use Rattle.ax_migrate.specs.Losing.{losses_from, lost_lines}
-use Rattle.ax_migrate.specs.declared.losing.LossEntry.{LossEntry}
+use Rattle.ax_migration.proofs.Found.{all_found, found_is_lost}
+use Rattle.ax_migration.specs.Finding.{found_losses, record_losses}
+use Rattle.ax_migration.specs.Losing.{losses_from, lost_lines}
+use Rattle.ax_migration.specs.declared.losses.LossEntry.{LossEntry}
 use Rattle.ax_migrate_views.proofs.GonePaths.{found_gone}
 use Rattle.ax_migrate_views.specs.Blocks.{old_tree, new_tree, IsOfEditions}
 use Rattle.ax_migrate_views.specs.Bodies.{TellsBody}

@@ -3,14 +3,14 @@ use Rattle.std.proofs.Common.{◌≡◌, ℕ, ◌+◌, ◌-◌, ◌/◌, ◌<◌
 use Rattle.std.specs.List.{AllZip}
 use Rattle.std.proofs.lemmas.List.Concat.{flat_map-append}
 use Rattle.ax_bits.specs.Bits.{bits}
-use Rattle.ax_migrate.specs.Losing.{lost_line, lost_lines}
-use Rattle.ax_migrate.specs.Finding.{record_losses}
+use Rattle.ax_migration.specs.Losing.{lost_line, lost_lines}
+use Rattle.ax_migration.specs.Finding.{record_losses}
 use Rattle.ax_migrate_views.proofs.GonePaths.{losses_gone}
 use Rattle.ax_migrate_views.proofs.LossSteps.{Front}
 use Rattle.ax_moves.proofs.LostRuns.{lines_split}
 use Rattle.ax_moves.specs.Gone.{gone}
 use Rattle.ax_moves.specs.Laying.{Gathers}
-use Rattle.ax_migrate.specs.declared.losing.LossEntry.{LossEntry}
+use Rattle.ax_migration.specs.declared.losses.LossEntry.{LossEntry}
 use Rattle.ax_migrate_views.proofs.ToldLosses.{losses_each}
 use Rattle.ax_migrate_views.specs.Blocks.{IsOfEditions, old_tree}
 use Rattle.ax_migrate_views.specs.Losses.{LosesEach, shown_entries, shown_losses}

@@ -3,7 +3,7 @@ use Rattle.std.specs.Prelude.{◌≡◌, ℕ, ◌*◌, ◌/◌, ◌%◌, ◌≤�
 use Rattle.ax_bits.specs.Bits.{bits}
 use Rattle.ax_bits.specs.Out.{Appends}
 use Rattle.ax_bits.specs.declared.output.Out.{Out}
-use Rattle.ax_migrate.specs.Migrating.{migrated_block}
+use Rattle.ax_migration.specs.Migrating.{migrated_block}
 use Rattle.ax_migrate_views.specs.Editions.{AreEditions}
 use Rattle.ax_migrate_views.specs.declared.migrator.Migrator.{Migrator}
 use Rattle.ax_format.specs.Blocks.{BlockTree, read_block}

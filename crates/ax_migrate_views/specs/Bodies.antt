@@ -5,8 +5,8 @@ use Rattle.ax_relation.specs.Moves.{MovesTree}
 use Rattle.ax_relation.specs.PlainMoves.{moves_tree}
 use Rattle.ax_relation.specs.declared.moves.Move.{Move}
 use Rattle.ax_relation.specs.declared.relation.RelationPath.{RelationPath}
-use Rattle.ax_migrate.specs.Finding.{found_losses}
-use Rattle.ax_migrate.specs.Losing.{lost_lines}
+use Rattle.ax_migration.specs.Finding.{found_losses}
+use Rattle.ax_migration.specs.Losing.{lost_lines}
 use Rattle.ax_moves.specs.Laying.{Gathers, Lays}
 use Rattle.ax_moves.specs.Octets.{canon_by}
 use Rattle.ax_format.specs.Bodies.{SpellsBody}

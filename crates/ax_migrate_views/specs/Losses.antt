@@ -2,10 +2,10 @@
 use Rattle.std.specs.Prelude.{◌≡◌, ℕ, ◌+◌, ◌≤◌, List, [], ◌∷◌, ◌++◌, take, Option, Some, None, Result}
 use Rattle.ax_bits.specs.Bits.{bits}
 use Rattle.ax_relation.specs.declared.relation.RelationPath.{RelationPath}
-use Rattle.ax_migrate.specs.Finding.{record_losses}
-use Rattle.ax_migrate.specs.Losing.{losses_from, lost_lines}
-use Rattle.ax_migrate.specs.declared.line.Loss.{Loss}
-use Rattle.ax_migrate.specs.declared.losing.LossEntry.{LossEntry}
+use Rattle.ax_migration.specs.Finding.{record_losses}
+use Rattle.ax_migration.specs.Losing.{losses_from, lost_lines}
+use Rattle.ax_migration.specs.declared.line.Loss.{Loss}
+use Rattle.ax_migration.specs.declared.losses.LossEntry.{LossEntry}
 use Rattle.ax_migrate_views.specs.Blocks.{old_tree, new_tree}
 use Rattle.ax_migrate_views.specs.declared.losses.Losses.{Losses}
 use Rattle.ax_migrate_views.specs.declared.losses.RecordLosses.{RecordLosses}

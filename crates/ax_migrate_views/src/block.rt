@@ -3,7 +3,7 @@ ghost use Rattle.std.specs.Prelude.{◌≡◌, ◌≤◌, length, IsErrOf};
 ghost use Rattle.ax_blocks.specs.Reader.{raw_tree};
 ghost use Rattle.ax_migrate_views.specs.Blocks.{new_tree, old_tree};
 ghost use Rattle.ax_migrate_views.specs.Losses.{TellsLosses, WritesLosses};
-ghost use Rattle.ax_migrate.specs.Commands.{migrate_command};
+ghost use Rattle.ax_migration.specs.Commands.{migrate_command};
 ghost use Rattle.ax_format.specs.Sizes.{longest_body};
 ghost use Rattle.ax_endpoints.specs.Changes.{sink_change};
 ghost use Rattle.ax_blocks.specs.BlockTaking.{Takes};

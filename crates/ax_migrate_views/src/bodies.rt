@@ -1,8 +1,8 @@
 //! Bodies, judged and laid record by record as they move.
 ghost use Rattle.std.specs.Prelude.{◌≡◌, ◌≤◌, length, IfOk, IfErr};
 ghost use Rattle.ax_relation.specs.PlainMoves.{moves_tree};
-ghost use Rattle.ax_migrate.specs.Finding.{record_losses};
-ghost use Rattle.ax_migrate.specs.Losing.{lost_lines};
+ghost use Rattle.ax_migration.specs.Finding.{record_losses};
+ghost use Rattle.ax_migration.specs.Losing.{lost_lines};
 ghost use Rattle.ax_migrate_views.specs.Bodies.{IsRecordPlaced, LaysBody, TellsBody};
 ghost use Rattle.ax_migrate_views.specs.Kept.{KeepsRecords};
 ghost use Rattle.ax_moves.specs.KnownMoves.{KnowsMoves};

@@ -4,7 +4,7 @@ ghost use Rattle.std.specs.Iterator.{YieldsFirstBy, item_count};
 ghost use Rattle.ax_migrate_views.specs.Losses.{loss_shown, losses_here, losses_left, losses_of_record};
 
 use crate::losses::{Losses, RecordLosses};
-use ax_migrate::Loss;
+use ax_migration::Loss;
 use ax_moves::is_there;
 
 impl<'m> Iterator for RecordLosses<'m> {

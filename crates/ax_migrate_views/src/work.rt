@@ -1,7 +1,7 @@
 //! The work of `migrate` on one block.
 ghost use Rattle.std.specs.Prelude.{◌≡◌, length, IfOk};
 ghost use Rattle.ax_migrate_views.specs.Blocks.{new_tree, old_tree};
-ghost use Rattle.ax_migrate.specs.Commands.{migrate_command};
+ghost use Rattle.ax_migration.specs.Commands.{migrate_command};
 
 use crate::block::migrate_block;
 use crate::migrator::Migrator;

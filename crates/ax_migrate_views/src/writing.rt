@@ -1,7 +1,7 @@
 //! The lines of what a record loses, written where those of its block are more than are kept. Nothing here takes memory.
 ghost use Rattle.std.specs.Prelude.{◌≡◌, length};
-ghost use Rattle.ax_migrate.specs.Finding.{record_losses};
-ghost use Rattle.ax_migrate.specs.Losing.{lost_lines};
+ghost use Rattle.ax_migration.specs.Finding.{record_losses};
+ghost use Rattle.ax_migration.specs.Losing.{lost_lines};
 ghost use Rattle.ax_moves.specs.Lost.{AreRuns, key_paths, losses_below};
 ghost use Rattle.ax_moves.specs.Wholes.{whole_entries};
 ghost use Rattle.ax_format.specs.Tree.{marked};
@@ -10,7 +10,7 @@ ghost use Rattle.ax_view.specs.Placing.{IsPlaced};
 ghost use Rattle.ax_view.specs.Shown.{record_entries};
 
 use ax_codec::Codec;
-use ax_migrate::{Loss, loss_line};
+use ax_migration::{Loss, loss_line};
 use ax_moves::{LONGEST, LostKey, tell_keys};
 use ax_endpoints::{Sink, SinkFailed, write_text};
 use ax_view::{Notes, PlacedSlots, Places, RecordView, place_record};

@@ -3,10 +3,10 @@ use Rattle.std.proofs.Common.{◌≡◌, ℕ, zero, suc, ◌+◌, ◌≤◌, max
 use Rattle.std.proofs.lemmas.List.{take-append-drop}
 use Rattle.std.proofs.lemmas.List.Concat.{flat_map-append}
 use Rattle.ax_relation.specs.declared.relation.RelationPath.{RelationPath}
-use Rattle.ax_migrate.specs.Finding.{path_loss, record_losses}
+use Rattle.ax_migration.specs.Finding.{path_loss, record_losses}
 use Rattle.ax_relation.specs.Standing.{value_below}
-use Rattle.ax_migrate.specs.Losing.{lost_line, lost_lines}
-use Rattle.ax_migrate.specs.declared.losing.LossEntry.{LossEntry}
+use Rattle.ax_migration.specs.Losing.{lost_line, lost_lines}
+use Rattle.ax_migration.specs.declared.losses.LossEntry.{LossEntry}
 use Rattle.ax_moves.specs.Lost.{key_path, key_paths, place_numbers, is_below, key_loss, losses_below, OfFirst, LeadsBy, IsAmong, LeadsInto, RunsFit, FallsWith, AreRuns}
 use Rattle.ax_moves.specs.declared.lost.LostKey.{LostKey}
 use Rattle.ax_moves.specs.declared.lost.Run.{Run}

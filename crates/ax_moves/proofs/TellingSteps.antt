@@ -4,8 +4,8 @@ use Rattle.std.proofs.lemmas.List.{drop_all, drop-drop, get_or_past}
 use Rattle.ax_fspec.specs.Marks.{IsMarked, common_marks, slots_from, slots_of}
 use Rattle.ax_relation.specs.declared.relation.RelationPath.{RelationPath}
 use Rattle.ax_relation.specs.Standing.{value_below}
-use Rattle.ax_migrate.specs.Losing.{lost_line, lost_lines}
-use Rattle.ax_migrate.specs.declared.losing.LossEntry.{LossEntry}
+use Rattle.ax_migration.specs.Losing.{lost_line, lost_lines}
+use Rattle.ax_migration.specs.declared.losses.LossEntry.{LossEntry}
 use Rattle.ax_moves.proofs.SlotSteps.{leads}
 use Rattle.ax_moves.proofs.LostRuns.{deepest, deepest_drop, deepest_take, fallen, first_less, lines_split, lost_there, none_left, none_lost, runs_drop, runs_take}
 use Rattle.ax_moves.proofs.RunSteps.{number_leads}

@@ -3,7 +3,7 @@ use Rattle.std.specs.Prelude.{◌≡◌, ℕ, zero, suc, ◌+◌, ◌≤◌, ◌
 use Rattle.ax_fspec.specs.Marks.{IsMarked, no_marks}
 use Rattle.ax_relation.specs.declared.relation.RelationPath.{RelationPath}
 use Rattle.ax_relation.specs.Standing.{value_below}
-use Rattle.ax_migrate.specs.declared.losing.LossEntry.{LossEntry}
+use Rattle.ax_migration.specs.declared.losses.LossEntry.{LossEntry}
 use Rattle.ax_moves.specs.Gone.{gone}
 use Rattle.ax_moves.specs.Octets.{with_slot}
 use Rattle.ax_moves.specs.declared.lost.LostKey.{LostKey}

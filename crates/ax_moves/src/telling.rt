@@ -1,7 +1,7 @@
 //! The lines of what records lose, laid one after another. Nothing here takes memory.
 ghost use Rattle.std.specs.Prelude.{◌≡◌, ℕ, [], IfSome, IsTrue, length, decimal};
-ghost use Rattle.ax_migrate.specs.Finding.{record_losses};
-ghost use Rattle.ax_migrate.specs.Losing.{lost_line, lost_lines};
+ghost use Rattle.ax_migration.specs.Finding.{record_losses};
+ghost use Rattle.ax_migration.specs.Losing.{lost_line, lost_lines};
 ghost use Rattle.ax_moves.specs.Laying.{Gathers};
 ghost use Rattle.ax_moves.specs.Lost.{AreRuns, HasParts, IsPassed, is_below, key_paths, losses_below, own_loss, place_numbers};
 ghost use Rattle.ax_moves.specs.Wholes.{whole_codec, whole_entries};

@@ -1,6 +1,6 @@
 use Rattle.std.proofs.Common.{sym, subst, refl}
-use Rattle.ax_migrate.specs.Finding.{record_losses}
-use Rattle.ax_migrate.specs.Losing.{lost_lines}
+use Rattle.ax_migration.specs.Finding.{record_losses}
+use Rattle.ax_migration.specs.Losing.{lost_lines}
 use Rattle.ax_moves.proofs.Slots.{placed_by}
 use Rattle.ax_moves.specs.Laying.{Gathers}
 use Rattle.ax_moves.specs.Lost.{key_paths}

@@ -1,6 +1,6 @@
 use Rattle.std.proofs.Common.{◌∙◌, ap, not, refl, subst, sym}
-use Rattle.ax_migrate.specs.Finding.{record_losses}
-use Rattle.ax_migrate.specs.Losing.{lost_lines}
+use Rattle.ax_migration.specs.Finding.{record_losses}
+use Rattle.ax_migration.specs.Losing.{lost_lines}
 use Rattle.ax_moves.proofs.LostRuns.{record_lost}
 use Rattle.ax_moves.proofs.Slots.{placed_by}
 use Rattle.ax_migrate_views.proofs.WritingSteps.{entries_shown, never_fails, of_none, of_some}

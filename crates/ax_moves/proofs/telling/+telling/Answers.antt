@@ -1,6 +1,6 @@
 use Rattle.std.proofs.Common.{rules, ◌≡◌, ℕ, List, drop, option_map, take, ◌-◌, ◌+◌, ◌<◌, ◌≤◌, ◌∙◌, ap, arith, get_or, length, refl, subst, suc, sym}
 use Rattle.ax_fspec.specs.Marks.{IsMarked}
-use Rattle.ax_migrate.specs.Losing.{lost_lines}
+use Rattle.ax_migration.specs.Losing.{lost_lines}
 use Rattle.ax_moves.proofs.Slots.{placed_by, compound_node}
 use Rattle.ax_moves.proofs.TellingSteps.{KeysTold, all_told, compound_value, deeper, own_told, slot_runs, slot_skipped, slot_told}
 use Rattle.ax_moves.proofs.ToldLines.{gathers_none}

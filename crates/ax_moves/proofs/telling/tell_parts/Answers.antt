@@ -1,5 +1,5 @@
 use Rattle.std.proofs.Common.{◌≡◌, ◌+◌, ◌∙◌, ap, arith, sym, suc}
-use Rattle.ax_migrate.specs.Losing.{lost_line}
+use Rattle.ax_migration.specs.Losing.{lost_line}
 use Rattle.ax_moves.proofs.TellingSteps.{leaf_skipped, line_told}
 use Rattle.ax_moves.proofs.ToldLines.{told_same}
 use Rattle.ax_view.specs.Shown.{item_value}

@@ -1,6 +1,6 @@
 use Rattle.std.proofs.Common.{ap, sym}
-use Rattle.ax_migrate.specs.Finding.{record_losses}
-use Rattle.ax_migrate.specs.Losing.{lost_lines}
+use Rattle.ax_migration.specs.Finding.{record_losses}
+use Rattle.ax_migration.specs.Losing.{lost_lines}
 use Rattle.ax_moves.proofs.LostRuns.{record_lost}
 use Rattle.ax_moves.proofs.ToldLines.{told_same}
 use Rattle.ax_moves.specs.Lost.{key_paths, losses_below}

@@ -1,6 +1,6 @@
 use Rattle.std.proofs.Common.{rules, ◌+◌, ◌++◌, false, length, [], refl, ap, arith, subst, sym, ◌∙◌}
-use Rattle.ax_migrate.specs.Finding.{record_losses}
-use Rattle.ax_migrate.specs.Losing.{lost_lines}
+use Rattle.ax_migration.specs.Finding.{record_losses}
+use Rattle.ax_migration.specs.Losing.{lost_lines}
 use Rattle.ax_migrate_views.proofs.LossSteps.{front_more, front_failed, records_few}
 use Rattle.ax_migrate_views.proofs.ToldLosses.{losses_written}
 use Rattle.ax_migrate_views.proofs.ViewBlocks.{view_spells}

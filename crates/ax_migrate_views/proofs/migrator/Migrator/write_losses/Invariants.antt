@@ -1,5 +1,5 @@
 use Rattle.std.proofs.Common.{◌≡◌, ◌+◌, ◌≤◌, length}
-use Rattle.ax_migrate.specs.Losing.{lost_lines}
+use Rattle.ax_migration.specs.Losing.{lost_lines}
 use Rattle.ax_migrate_views.proofs.LossSteps.{Front}
 use Rattle.ax_migrate_views.proofs.WritingSteps.{OfCodec}
 use Rattle.ax_migrate_views.specs.Losses.{shown_losses}

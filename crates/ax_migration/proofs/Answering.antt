@@ -1,11 +1,11 @@
 -- What `migrate` answers to a block, by its migrated records.
 use Rattle.std.proofs.Common.{◌≡◌, ℕ, ◌<◌, ◌≤◌, List, [], ◌∷◌, Option, Some, None, length, map, refl, sym, ◌∙◌, ap, subst, arith, suc}
 use Rattle.ax_relation.specs.Moved.{moved_record}
-use Rattle.ax_migrate.proofs.OneBlock.{migrated_is_block}
-use Rattle.ax_migrate.specs.Losing.{block_losses, lost_lines}
-use Rattle.ax_migrate.specs.Migrating.{migrated_block}
-use Rattle.ax_migrate.proofs.LongRecords.{one_block}
-use Rattle.ax_migrate.specs.Commands.{migrate_command, unless_too_long}
+use Rattle.ax_migration.proofs.OneBlock.{migrated_is_block}
+use Rattle.ax_migration.specs.Losing.{block_losses, lost_lines}
+use Rattle.ax_migration.specs.Migrating.{migrated_block}
+use Rattle.ax_migration.proofs.LongRecords.{one_block}
+use Rattle.ax_migration.specs.Commands.{migrate_command, unless_too_long}
 use Rattle.ax_format.specs.Blocks.{BlockTree, Fits, read_block, opaque_block}
 use Rattle.ax_format.specs.CanonicalOctets.{canon_block, canon_length, framed}
 use Rattle.ax_format.specs.Flaws.{NoFlaw}

@@ -1,7 +1,7 @@
 -- The command `migrate`. Blocks are read under the old edition alone.
 use Rattle.std.specs.Prelude.{ℕ, List, [], ◌∷◌, map, Option, Some, None}
 use Rattle.ax_relation.specs.Moved.{moved_record}
-use Rattle.ax_migrate.specs.Losing.{block_losses, lost_lines}
+use Rattle.ax_migration.specs.Losing.{block_losses, lost_lines}
 use Rattle.ax_format.specs.Blocks.{BlockTree, read_block, opaque_block}
 use Rattle.ax_format.specs.CanonicalOctets.{framed}
 use Rattle.ax_format.specs.Specification.{SpecTree}

@@ -2,7 +2,7 @@
 use Rattle.std.specs.Prelude.{ℕ, ◌+◌, ◌&&◌, if◌then◌else◌, is_none, List, [], ◌∷◌, ◌++◌}
 use Rattle.ax_relation.specs.Standing.{is_there}
 use Rattle.ax_relation.specs.declared.relation.RelationPath.{RelationPath}
-use Rattle.ax_migrate.specs.declared.losing.LossEntry.{LossEntry}
+use Rattle.ax_migration.specs.declared.losses.LossEntry.{LossEntry}
 use Rattle.ax_format.specs.Tree.{EntriesTree}
 
 abbrev pub path_loss : ℕ → EntriesTree → RelationPath → List LossEntry

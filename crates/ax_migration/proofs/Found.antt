@@ -7,11 +7,11 @@ use Rattle.ax_relation.proofs.Distinct.{Distinct}
 use Rattle.ax_relation.proofs.MovedShape.{slot_shape}
 use Rattle.ax_relation.proofs.PresentPaths.{own_there}
 use Rattle.ax_relation.proofs.PlacedPaths.{StandsNamed, all_named, placed_slot_names}
-use Rattle.ax_migrate.specs.Finding.{path_loss, record_losses, found_losses}
+use Rattle.ax_migration.specs.Finding.{path_loss, record_losses, found_losses}
 use Rattle.ax_relation.proofs.PresentAt.{present_named, no_new_place}
 use Rattle.ax_relation.specs.Standing.{is_there}
-use Rattle.ax_migrate.specs.Losing.{loss, losses_from}
-use Rattle.ax_migrate.specs.declared.losing.LossEntry.{LossEntry}
+use Rattle.ax_migration.specs.Losing.{loss, losses_from}
+use Rattle.ax_migration.specs.declared.losses.LossEntry.{LossEntry}
 use Rattle.ax_format.specs.At.{slot_value}
 use Rattle.ax_format.specs.Migrated.{is_lost, Lost}
 use Rattle.ax_format.specs.Named.{Key, part_keys, keys_at, kind_at, entry_at, Named}

@@ -3,9 +3,9 @@ use Rattle.std.specs.Prelude.{List, map}
 use Rattle.ax_relation.specs.PlainMoves.{moves_tree}
 use Rattle.ax_relation.specs.declared.moves.Move.{Move}
 use Rattle.ax_relation.specs.Moved.{moved_record}
-use Rattle.ax_migrate.specs.Losing.{block_losses}
-use Rattle.ax_migrate.specs.Moving.{entries_by}
-use Rattle.ax_migrate.specs.declared.losing.LossEntry.{LossEntry}
+use Rattle.ax_migration.specs.Losing.{block_losses}
+use Rattle.ax_migration.specs.Moving.{entries_by}
+use Rattle.ax_migration.specs.declared.losses.LossEntry.{LossEntry}
 use Rattle.ax_format.specs.Blocks.{BlockTree, read_block, opaque_block}
 use Rattle.ax_format.specs.Migrated.{MigratedBlock}
 use Rattle.ax_format.specs.Plain.{spec_tree, block_tree}

@@ -3,7 +3,7 @@ use Rattle.std.proofs.Common.{◌≡◌, List, [], ◌∷◌, map, refl, sym, su
 use Rattle.std.specs.List.{AllByRecursion}
 use Rattle.ax_relation.proofs.Once.{moved_migrated, migrated_once}
 use Rattle.ax_relation.specs.Moved.{moved_record}
-use Rattle.ax_migrate.specs.Migrating.{migrated_block}
+use Rattle.ax_migration.specs.Migrating.{migrated_block}
 use Rattle.ax_format.specs.Blocks.{BlockTree, read_block, opaque_block, Fits}
 use Rattle.ax_format.specs.Bodies.{RecordShape}
 use Rattle.ax_format.specs.Flaws.{NoFlaw}

@@ -1,0 +1,4 @@
+pub mod Answering
+pub mod Found
+pub mod LongRecords
+pub mod OneBlock

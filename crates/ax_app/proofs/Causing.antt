@@ -1,6 +1,6 @@
 -- What an outcome says of the outside.
 use Rattle.std.proofs.Common.{ℕ, ◌+◌, ◌<◌, List, Option, sym, subst}
-use Rattle.ax_build_work.specs.declared.fault.TextFault.{TextFault}
+use Rattle.ax_lines.specs.declared.text_fault.TextFault.{TextFault}
 use Rattle.ax_command.specs.Outcomes.{outcome_of_stop, outcome_of_end, outcome_of_lines, outcome_of_job_stop}
 use Rattle.ax_command.specs.declared.outcome.JobStop.{JobStop}
 use Rattle.ax_command.specs.declared.outcome.JobStop.TheVariants as JobStopOf

@@ -1,7 +1,7 @@
 -- What the code of a command has done, from what its calls say.
 use Rattle.std.proofs.Common.{◌≡◌, ℕ, ◌≤◌, inl, inr, List, Option, Result, Ok, Err, IfOk, IfErr, OnErr, refl, sym, subst, arith}
 use Rattle.ax_build_work.specs.BuildCommand.{build_command}
-use Rattle.ax_build_work.specs.declared.fault.TextFault.{TextFault}
+use Rattle.ax_lines.specs.declared.text_fault.TextFault.{TextFault}
 use Rattle.ax_command.specs.Outcomes.{outcome_of_end, outcome_of_lines}
 use Rattle.ax_command.specs.declared.outcome.JobStop.{JobStop}
 use Rattle.ax_command.specs.declared.outcome.JobStop.TheVariants as JobStopOf

@@ -7,7 +7,7 @@ use Rattle.ax_app.specs.Running.{Runs, at_words, no_words, at_files, before_inpu
 use Rattle.ax_app.specs.Salvages.{outcome_of_salvage}
 use Rattle.ax_check.specs.declared.accepted.Accepted.{Accepted}
 use Rattle.ax_check.specs.declared.catalogue.Catalogue.{Catalogue}
-use Rattle.ax_build_work.specs.declared.fault.TextFault.{TextFault}
+use Rattle.ax_lines.specs.declared.text_fault.TextFault.{TextFault}
 use Rattle.ax_command.specs.Outcomes.{outcome_of_stop, outcome_of_end, outcome_of_lines, outcome_of_job_stop}
 use Rattle.ax_command.specs.declared.outcome.JobStop.{JobStop}
 use Rattle.ax_command.specs.declared.outcome.JobStop.TheVariants as JobStopOf

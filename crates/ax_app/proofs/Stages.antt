@@ -4,7 +4,7 @@ use Rattle.std.proofs.Math.Nat.{eq-or-lt_of_le}
 use Rattle.ax_bits.specs.Bits.{AreOctets}
 use Rattle.ax_build_work.proofs.Once.{build_once}
 use Rattle.ax_build_work.specs.BuildCommand.{build_command}
-use Rattle.ax_build_work.specs.declared.fault.TextFault.{TextFault}
+use Rattle.ax_lines.specs.declared.text_fault.TextFault.{TextFault}
 use Rattle.ax_command.specs.Lines.{lines_of}
 use Rattle.ax_command.specs.Outcomes.{outcome_of_stop, outcome_of_end, outcome_of_lines, outcome_of_job_stop}
 use Rattle.ax_command.specs.declared.outcome.JobStop.{JobStop}

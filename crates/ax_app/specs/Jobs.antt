@@ -1,7 +1,7 @@
 -- The commands: what each does once its files are accepted. A command is one row of `IsJob`.
 use Rattle.std.specs.Prelude.{◌≡◌, ℕ, ◌+◌, ◌≤◌, ◌^◌, List, [], ◌∷◌, ◌++◌, length, codes, Some, None}
 use Rattle.ax_build_work.specs.BuildCommand.{build_command}
-use Rattle.ax_build_work.specs.declared.fault.TextFault.{TextFault}
+use Rattle.ax_lines.specs.declared.text_fault.TextFault.{TextFault}
 use Rattle.ax_command.specs.Accepted.{accepted_line}
 use Rattle.ax_command.specs.Outcomes.{outcome_of_end, outcome_of_lines}
 use Rattle.ax_command.specs.declared.outcome.JobStop.{JobStop}

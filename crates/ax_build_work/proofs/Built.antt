@@ -4,7 +4,7 @@ use Rattle.ax_build_work.specs.BuildCommand.{IsBuiltOf, AnswersSome, AnswersLine
 use Rattle.ax_build_work.specs.Stops.{stop_of_lexing, NotBuilt, StopsLine}
 use Rattle.ax_build_work.specs.declared.fault.BuildStop.{BuildStop}
 use Rattle.ax_build_work.specs.declared.fault.BuildStop.TheVariants as Stop
-use Rattle.ax_build_work.specs.declared.fault.TextFault.{TextFault}
+use Rattle.ax_lines.specs.declared.text_fault.TextFault.{TextFault}
 use Rattle.ax_lines.specs.Commands.{LineAnswer, gives, nothing, refused}
 use Rattle.ax_format.specs.Specification.{SpecTree}
 use Rattle.ax_tokens.specs.Faults.{IsFault}

@@ -4,8 +4,8 @@ use Rattle.std.specs.List.{AllByRecursion}
 use Rattle.ax_block_reader.proofs.Once.{printed_tokens}
 use Rattle.ax_block_reader.specs.BlockTexts.{IsBlockOf, IsBlockText, canonical_length, Spells, IsLongText}
 use Rattle.ax_build_work.specs.BuildCommand.{deepest, IsBuiltOf, IsRefusedFor, AnswersSome, AnswersTokens, AnswersLine, by_tokens, by_octet, by_brace, build_command}
-use Rattle.ax_build_work.specs.declared.fault.TextFault.{TextFault}
-use Rattle.ax_build_work.specs.declared.fault.TextFault.TheVariants.{LineTooLong, BadByte, TooDeep, BadToken, TooLong}
+use Rattle.ax_lines.specs.declared.text_fault.TextFault.{TextFault}
+use Rattle.ax_lines.specs.declared.text_fault.TextFault.TheVariants.{LineTooLong, BadByte, TooDeep, BadToken, TooLong}
 use Rattle.ax_lines.specs.Commands.{LineAnswer, gives, nothing, refused, HasOneAnswer}
 use Rattle.ax_format.specs.Blocks.{BlockTree, read_block, opaque_block}
 use Rattle.ax_format.specs.CanonicalOctets.{canon_block, canon_over, category_of}

@@ -1,8 +1,8 @@
 -- `build`: the canonical form of the block whose text a line is.
 use Rattle.std.specs.Prelude.{◌≡◌, ℕ, List, [], ◌∷◌}
 use Rattle.ax_block_reader.specs.BlockTexts.{IsBlockText, IsTextOf, IsLongText}
-use Rattle.ax_build_work.specs.declared.fault.TextFault.{TextFault}
-use Rattle.ax_build_work.specs.declared.fault.TextFault.TheVariants.{LineTooLong, BadByte, TooDeep, BadToken, TooLong}
+use Rattle.ax_lines.specs.declared.text_fault.TextFault.{TextFault}
+use Rattle.ax_lines.specs.declared.text_fault.TextFault.TheVariants.{LineTooLong, BadByte, TooDeep, BadToken, TooLong}
 use Rattle.ax_lines.specs.Commands.{LineAnswer, gives, nothing, refused, LineCommand}
 use Rattle.ax_format.specs.Blocks.{BlockTree}
 use Rattle.ax_format.specs.CanonicalOctets.{canon_over, category_of}

@@ -3,7 +3,7 @@ use Rattle.std.specs.Prelude.{List, ℕ}
 use Rattle.ax_build_work.specs.BuildCommand.{IsRefusedFor, AnswersLine}
 use Rattle.ax_build_work.specs.declared.fault.BuildStop.{BuildStop}
 use Rattle.ax_build_work.specs.declared.fault.BuildStop.TheVariants.{Refused, OutOfMemory}
-use Rattle.ax_build_work.specs.declared.fault.TextFault.TheVariants.{BadByte, TooDeep, BadToken, TooLong}
+use Rattle.ax_lines.specs.declared.text_fault.TextFault.TheVariants.{BadByte, TooDeep, BadToken, TooLong}
 use Rattle.ax_block_reader.specs.declared.error.TextError.{TextError}
 use Rattle.ax_block_reader.specs.declared.error.TextError.TheVariants as TextErrorOf
 use Rattle.ax_lines.specs.Commands.{refused}

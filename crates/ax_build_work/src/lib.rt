@@ -7,5 +7,5 @@ mod opaque;
 mod printed;
 mod work;
 
-pub use fault::TextFault;
+pub use ax_lines::TextFault;
 pub use work::build_lines;

@@ -8,10 +8,10 @@ ghost use Rattle.ax_format.specs.Plain.{catalogue_tree};
 ghost use Rattle.ax_endpoints.specs.Changes.{sink_change, source_change};
 
 use crate::building::line_octets;
-use crate::fault::{BuildStop, TextFault};
+use crate::fault::BuildStop;
 use ax_block_reader::items_of;
 use ax_check::Catalogue;
-use ax_lines::{LineStop, LineWork, LinesEnd, run_lines};
+use ax_lines::{LineStop, LineWork, LinesEnd, TextFault, run_lines};
 use ax_lists::zeros;
 use ax_endpoints::{Sink, Source};
 use ax_text_views::{Tables, tables_of};

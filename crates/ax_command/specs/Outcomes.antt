@@ -5,8 +5,8 @@ use Rattle.ax_command.specs.declared.outcome.JobStop.TheVariants as JobStopOf
 use Rattle.ax_command.specs.declared.outcome.Outcome.TheVariants as OutcomeOf
 use Rattle.ax_command.specs.declared.outcome.Refusal.{Refusal}
 use Rattle.ax_command.specs.declared.outcome.Refusal.TheVariants as RefusalOf
-use Rattle.ax_build_work.specs.declared.fault.TextFault.{TextFault}
-use Rattle.ax_build_work.specs.declared.fault.TextFault.TheVariants as TextFaultOf
+use Rattle.ax_lines.specs.declared.text_fault.TextFault.{TextFault}
+use Rattle.ax_lines.specs.declared.text_fault.TextFault.TheVariants as TextFaultOf
 use Rattle.ax_lines.specs.declared.end.LinesEnd.{LinesEnd}
 use Rattle.ax_lines.specs.declared.end.LinesEnd.TheVariants as LinesEndOf
 use Rattle.ax_load.specs.declared.fault.LoadStop.{LoadStop}

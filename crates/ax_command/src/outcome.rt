@@ -5,7 +5,7 @@ ghost use Rattle.ax_command.specs.Status.{status_of};
 ghost use Rattle.ax_command.specs.declared.outcome.JobStop.TheVariants as JobStopOf;
 
 use ax_blocks::{InputFault, StreamEnd};
-use ax_build_work::TextFault;
+use ax_lines::TextFault;
 use ax_filter::FilterFault;
 use ax_lines::LinesEnd;
 use ax_load::{LoadStop, SpecFault};

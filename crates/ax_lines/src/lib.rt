@@ -15,10 +15,12 @@ mod next_line;
 mod reader;
 mod reading;
 mod stream;
+mod text_fault;
 mod work;
 
 pub use end::LinesEnd;
 pub use line_error::LineError;
 pub use reader::LineReader;
 pub use stream::run_lines;
+pub use text_fault::TextFault;
 pub use work::{LineStop, LineWork};

@@ -3,11 +3,11 @@ use Rattle.std.proofs.Common.{◌≡◌, ℕ, List, Result, refl, subst}
 use Rattle.ax_command.specs.declared.outcome.JobStop.{JobStop}
 use Rattle.ax_command.specs.declared.outcome.Outcome.{Outcome}
 use Rattle.ax_command.specs.declared.outcome.Refusal.TheVariants.{FilterRefused}
-use Rattle.ax_filter.specs.Texts.{IsFilterText, IsRefused, IsStopped}
-use Rattle.ax_filter.specs.Tree.{ExprTree}
-use Rattle.ax_filter.specs.declared.text.FilterFault.{FilterFault}
-use Rattle.ax_filter.specs.declared.text.FilterStop.{FilterStop}
-use Rattle.ax_filter.specs.declared.text.FilterStop.TheVariants.{Refused}
+use Rattle.ax_expressions.specs.Texts.{IsFilterText, IsRefused, IsStopped}
+use Rattle.ax_expressions.specs.Tree.{ExprTree}
+use Rattle.ax_expressions.specs.declared.stop.FilterFault.{FilterFault}
+use Rattle.ax_expressions.specs.declared.stop.FilterStop.{FilterStop}
+use Rattle.ax_expressions.specs.declared.stop.FilterStop.TheVariants.{Refused}
 use Rattle.ax_filter_work.specs.FilterCommand.{filter_command}
 use Rattle.ax_format.specs.Specification.{SpecTree}
 use Rattle.ax_words.specs.declared.line.Line.TheVariants.{Filter}

@@ -4,7 +4,7 @@ use Rattle.std.specs.List.{AllByRecursion}
 use Rattle.ax_command.specs.declared.outcome.Refusal.TheVariants.{FilterRefused}
 use Rattle.ax_convert_work.specs.ConvertCommand.{convert_command}
 use Rattle.ax_expand.specs.Expansion.{ExpansionTree}
-use Rattle.ax_filter.proofs.TextStops.{filter_once, refused_once, filter_not_refused}
+use Rattle.ax_expressions.proofs.TextStops.{filter_once, refused_once, filter_not_refused}
 use Rattle.ax_filter_work.specs.FilterCommand.{filter_command}
 use Rattle.ax_grammar.proofs.Ranges.{numbers_in_range}
 use Rattle.ax_grammar.specs.InRange.{AreNumbersInRange}

@@ -9,7 +9,7 @@ use Rattle.ax_command.specs.declared.outcome.Refusal.TheVariants.{OtherCategory,
 use Rattle.ax_convert_work.specs.ConvertCommand.{convert_command}
 use Rattle.ax_expand.specs.Expansion.{ExpansionTree}
 use Rattle.ax_expand_work.specs.ExpandCommand.{expand_command, expand_answer}
-use Rattle.ax_filter.specs.declared.text.FilterFault.{FilterFault}
+use Rattle.ax_expressions.specs.declared.stop.FilterFault.{FilterFault}
 use Rattle.ax_lines.specs.declared.end.LinesEnd.{LinesEnd}
 use Rattle.ax_lines.specs.declared.end.LinesEnd.TheVariants as LinesEndOf
 use Rattle.ax_load.specs.declared.fault.LoadStop.{LoadStop}

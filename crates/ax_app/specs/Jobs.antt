@@ -13,9 +13,9 @@ use Rattle.ax_command.specs.declared.outcome.Refusal.TheVariants.{FilterRefused,
 use Rattle.ax_convert_work.specs.ConvertCommand.{convert_command}
 use Rattle.ax_expand.specs.Expansion.{ExpansionTree}
 use Rattle.ax_expand_work.specs.ExpandCommand.{re_frn, expand_command}
-use Rattle.ax_filter.specs.Texts.{IsFilterText, IsRefused}
-use Rattle.ax_filter.specs.Tree.{ExprTree}
-use Rattle.ax_filter.specs.declared.text.FilterFault.{FilterFault}
+use Rattle.ax_expressions.specs.Texts.{IsFilterText, IsRefused}
+use Rattle.ax_expressions.specs.Tree.{ExprTree}
+use Rattle.ax_expressions.specs.declared.stop.FilterFault.{FilterFault}
 use Rattle.ax_filter_work.specs.FilterCommand.{filter_command}
 use Rattle.ax_grammar.specs.InRange.{AreNumbersInRange}
 use Rattle.ax_grammar.specs.Spelling.{printed}

@@ -10,8 +10,8 @@ use Rattle.ax_command.specs.declared.outcome.Outcome.{Outcome}
 use Rattle.ax_command.specs.declared.outcome.Outcome.TheVariants.{Done, Usage, SpecRefused, CategoryTwice, InputRefused, TextRefused, MigratedTooLong, InputTooLong, LoadFault, ReadFault, WriteFault, ReportFault, OutOfMemory, OtherCategory, ExpansionUnused, FilterRefused}
 use Rattle.ax_lines.specs.declared.text_fault.TextFault.{TextFault}
 use Rattle.ax_lines.specs.declared.text_fault.TextFault.TheVariants as TextFaultOf
-use Rattle.ax_filter.specs.declared.text.FilterFault.{FilterFault}
-use Rattle.ax_filter.specs.declared.text.FilterFault.TheVariants as FilterFaultOf
+use Rattle.ax_expressions.specs.declared.stop.FilterFault.{FilterFault}
+use Rattle.ax_expressions.specs.declared.stop.FilterFault.TheVariants as FilterFaultOf
 use Rattle.ax_load.specs.declared.fault.SpecFault.{SpecFault}
 use Rattle.ax_load.specs.declared.fault.SpecFault.TheVariants.{TooLarge, BadByte, TooDeep, BadToken, Flawed}
 

@@ -7,7 +7,7 @@ ghost use Rattle.ax_command.specs.Lines.{kind_name, flaw_line, flaw_lines, fault
 use crate::outcome::Outcome;
 use ax_blocks::write_fault_line;
 use ax_lines::TextFault;
-use ax_filter::FilterFault;
+use ax_expressions::FilterFault;
 use ax_format::{Flaw, FlawKind, Flaws, Text, category_digits};
 use ax_load::SpecFault;
 use ax_endpoints::{Sink, SinkFailed, write_text};

@@ -6,7 +6,7 @@ ghost use Rattle.ax_command.specs.declared.outcome.JobStop.TheVariants as JobSto
 
 use ax_blocks::{InputFault, StreamEnd};
 use ax_lines::TextFault;
-use ax_filter::FilterFault;
+use ax_expressions::FilterFault;
 use ax_lines::LinesEnd;
 use ax_load::{LoadStop, SpecFault};
 use std::alloc::AllocError;

@@ -19,8 +19,8 @@ use Rattle.ax_view.proofs.Found.{not_same, field_never, entries_are}
 use Rattle.ax_view.specs.Shown.{record_entries}
 use Rattle.ax_view.specs.Values.{entries_found, entries_in, value_in, value_read}
 use Rattle.ax_view.specs.declared.record.RecordView.{RecordView}
-use Rattle.ax_filter.proofs.SlotSets.{marked_slot}
-use Rattle.ax_filter.specs.Plans.{is_slot, MarkEach}
+use Rattle.ax_expressions.proofs.SlotSets.{marked_slot}
+use Rattle.ax_expressions.specs.Plans.{is_slot, MarkEach}
 
 -- ---- entries of slots that aren't marked
 

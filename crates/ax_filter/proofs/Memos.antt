@@ -4,7 +4,7 @@ use Rattle.std.proofs.lemmas.Bool.{cases_eq}
 use Rattle.std.proofs.lemmas.List.{get_or-set_other, get_or-set_same, length-set}
 use Rattle.ax_filter.specs.Memos.{Recalls, no_answer}
 use Rattle.ax_filter.specs.declared.memo.Answer.{Answer}
-use Rattle.ax_filter.specs.declared.plan.Found.{Found}
+use Rattle.ax_expressions.specs.declared.plan.Found.{Found}
 
 -- ---- one answer more
 

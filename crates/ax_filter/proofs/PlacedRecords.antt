@@ -3,8 +3,8 @@ use Rattle.std.proofs.Common.{◌≡◌, ℕ, List, refl, sym, ◌∙◌, ap}
 use Rattle.ax_codec.specs.Table.{record_kind_at}
 use Rattle.ax_codec.specs.declared.codec.Codec.{Codec}
 use Rattle.ax_fspec.specs.Reading.{kind_read}
-use Rattle.ax_filter.proofs.SlotSets.{marked_slot}
-use Rattle.ax_filter.specs.Plans.{MarkEach}
+use Rattle.ax_expressions.proofs.SlotSets.{marked_slot}
+use Rattle.ax_expressions.specs.Plans.{MarkEach}
 use Rattle.ax_view.specs.Placing.{IsPlaced, entries_there, placed_entries}
 use Rattle.ax_view.specs.Shown.{record_entries}
 use Rattle.ax_view.specs.Values.{value_in, entries_in}

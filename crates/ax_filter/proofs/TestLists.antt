@@ -3,8 +3,8 @@ use Rattle.std.proofs.Common.{◌≡◌, ℕ, ◌+◌, ◌<◌, ◌≤◌, Bool,
 use Rattle.std.proofs.lemmas.List.{drop_all}
 use Rattle.ax_format.proofs.Namings.{from_place}
 use Rattle.ax_format.specs.Tree.{EntriesTree}
-use Rattle.ax_filter.specs.Tests.{test_tree, tests_of, TestsTree, passes, all_pass, any_passes}
-use Rattle.ax_filter.specs.declared.test.Test.{Test}
+use Rattle.ax_expressions.specs.Tests.{test_tree, tests_of, TestsTree, passes, all_pass, any_passes}
+use Rattle.ax_expressions.specs.declared.test.Test.{Test}
 
 abbrev tests_from : List Test → ℕ → TestsTree
 tests_from ts i = tests_of (map test_tree (drop i ts))

@@ -4,10 +4,10 @@ use Rattle.ax_format.specs.At.{At}
 use Rattle.ax_format.specs.Specification.{SpecTree}
 use Rattle.ax_format.specs.Tree.{FixedTree, element, group, EntriesTree}
 use Rattle.ax_format.specs.declared.place.Place.{Place}
-use Rattle.ax_filter.specs.Faults.{place_in, element_in}
-use Rattle.ax_filter.specs.Meaning.{is_signed, number_of, fixed_number, compares, some_passes, holds, all_hold, any_holds}
-use Rattle.ax_filter.specs.Tests.{element_for, resolved, all_resolved, number_for, passes, all_pass, any_passes}
-use Rattle.ax_filter.specs.Tree.{ExprTree, all_of, any_of, not_of, present, compared, ExprsTree, no_exprs, expr_and}
+use Rattle.ax_expressions.specs.Faults.{place_in, element_in}
+use Rattle.ax_expressions.specs.Meaning.{is_signed, number_of, fixed_number, compares, some_passes, holds, all_hold, any_holds}
+use Rattle.ax_expressions.specs.Tests.{element_for, resolved, all_resolved, number_for, passes, all_pass, any_passes}
+use Rattle.ax_expressions.specs.Tree.{ExprTree, all_of, any_of, not_of, present, compared, ExprsTree, no_exprs, expr_and}
 
 numbers : (w : ℕ) (is : Bool) (o : Option ℕ) → option_map (number_of is w) o ≡ option_and_then (λ n. Some (number_of is w n)) o
 numbers w is None = refl

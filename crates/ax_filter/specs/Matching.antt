@@ -4,8 +4,8 @@ use Rattle.ax_format.specs.Blocks.{BlockTree, read_block, opaque_block}
 use Rattle.ax_format.specs.CanonicalOctets.{canon_block}
 use Rattle.ax_format.specs.Specification.{SpecTree}
 use Rattle.ax_format.specs.Tree.{EntriesTree}
-use Rattle.ax_filter.specs.Meaning.{holds}
-use Rattle.ax_filter.specs.Tree.{ExprTree}
+use Rattle.ax_expressions.specs.Meaning.{holds}
+use Rattle.ax_expressions.specs.Tree.{ExprTree}
 
 -- those of a category
 abbrev pub matching : List SpecTree → ℕ → ExprTree → List EntriesTree → List EntriesTree

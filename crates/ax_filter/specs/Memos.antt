@@ -1,7 +1,7 @@
 -- Answers that are kept.
 use Rattle.std.specs.Prelude.{◌≡◌, ℕ, ◌<◌, ◌≤◌, List, Option, None, length, get_or}
 use Rattle.ax_filter.specs.declared.memo.Answer.{Answer}
-use Rattle.ax_filter.specs.declared.plan.Found.{Found}
+use Rattle.ax_expressions.specs.declared.plan.Found.{Found}
 
 abbrev pub no_answer : Answer
 no_answer = record { number = 0; found = None }

@@ -1,13 +1,13 @@
 //! What a plan says of a record. Nothing here takes memory.
 ghost use Rattle.std.specs.Prelude.{◌≡◌};
 ghost use Rattle.ax_filter.specs.Memos.{Recalls};
-ghost use Rattle.ax_filter.specs.Plans.{asks, finds, level_says, plan_tree, says, wanted};
+ghost use Rattle.ax_expressions.specs.Plans.{asks, finds, level_says, plan_tree, says, wanted};
 
-use crate::comparing::compares_as;
+use ax_expressions::compares_as;
 use crate::memo::{Answer, Asked, found_once};
 use crate::places::HasPlaces;
-use crate::plan::{Found, Plan, Plans, Want};
-use crate::slot_sets::{has_slot, meets};
+use ax_expressions::{Found, Plan, Plans, Want};
+use ax_expressions::{has_slot, meets};
 
 /// Whether what was found holds.
 #[inline(always)]
@@ -30,7 +30,7 @@ fn is_wanted(want: Want, found: Found) -> bool
 
 /// What the plan of a question says.
 #[inline(always)]
-#[tactic(auto, using(crate::proofs::PlanTrees::answering))]
+#[tactic(auto, using(ax_expressions::proofs::PlanTrees::answering))]
 fn question_says<R: HasPlaces>(
     one: &Asked<'_, R>,
     slot: u32,
@@ -55,7 +55,7 @@ fn question_says<R: HasPlaces>(
 /// What a plan of a level says, without a call where it is that of a question, or one of several of which none is asked.
 #[cycle(deciding)]
 #[inline(always)]
-#[tactic(auto, using(crate::proofs::PlanTrees::deciding))]
+#[tactic(auto, using(ax_expressions::proofs::PlanTrees::deciding))]
 fn member_says<R: HasPlaces>(plan: &Plan, one: &Asked<'_, R>, answers: &mut [Answer]) -> bool
     requires sound { R.sound one.now.record.now }
     requires answers { Recalls (finds one.now.questions.now (R.entries one.now.record.now)) one.now.number answers.old }
@@ -75,7 +75,7 @@ fn member_says<R: HasPlaces>(plan: &Plan, one: &Asked<'_, R>, answers: &mut [Ans
 
 /// What several plans say: each of them, or some. The first one that decides is the last one asked.
 #[cycle(deciding)]
-#[tactic(auto, using(crate::proofs::PlanLists::several))]
+#[tactic(auto, using(ax_expressions::proofs::PlanLists::several))]
 fn many_say<R: HasPlaces>(
     plans: &Plans,
     all: bool,
@@ -97,7 +97,7 @@ fn many_say<R: HasPlaces>(
 
 /// What a plan says of a record.
 #[cycle(deciding)]
-#[tactic(auto, using(crate::proofs::PlanTrees::deciding))]
+#[tactic(auto, using(ax_expressions::proofs::PlanTrees::deciding))]
 pub fn says<R: HasPlaces>(plan: &Plan, one: &Asked<'_, R>, answers: &mut [Answer]) -> bool
     requires sound { R.sound one.now.record.now }
     requires answers { Recalls (finds one.now.questions.now (R.entries one.now.record.now)) one.now.number answers.old }

@@ -1,15 +1,15 @@
 //! Filters: an expression over a catalogue.
 ghost use Rattle.std.specs.Prelude.{◌≡◌, ℕ};
-ghost use Rattle.ax_filter.specs.Plans.{PlanEach};
+ghost use Rattle.ax_expressions.specs.Plans.{PlanEach};
 ghost use Rattle.ax_format.specs.Plain.{catalogue_tree};
 ghost use Rattle.ax_format.specs.Tree.{EntriesTree};
-ghost use Rattle.ax_filter.specs.Meaning.{holds};
-ghost use Rattle.ax_filter.specs.Tests.{test_tree, passes};
-ghost use Rattle.ax_filter.specs.Tree.{expr_tree};
+ghost use Rattle.ax_expressions.specs.Meaning.{holds};
+ghost use Rattle.ax_expressions.specs.Tests.{test_tree, passes};
+ghost use Rattle.ax_expressions.specs.Tree.{expr_tree};
 
-use crate::expr::Expr;
-use crate::plan::{CategoryPlans, Questions};
-use crate::test::Test;
+use ax_expressions::Expr;
+use ax_expressions::{CategoryPlans, Questions};
+use ax_expressions::Test;
 use ax_check::Catalogue;
 
 /// An expression over a catalogue: it holds of a record of a category or doesn't.

@@ -1,22 +1,22 @@
 //! What a filter says of a record.
 ghost use Rattle.std.specs.Prelude.{◌≡◌, ℕ, Option};
 ghost use Rattle.ax_format.specs.Plain.{record_tree};
-ghost use Rattle.ax_filter.specs.Meaning.{holds};
+ghost use Rattle.ax_expressions.specs.Meaning.{holds};
 ghost use Rattle.ax_filter.specs.Memos.{NoneLater, Recalls};
 ghost use Rattle.ax_filter.specs.OfCode.{expression, catalogue_of};
-ghost use Rattle.ax_filter.specs.Plans.{finds, plan_tree, says};
-ghost use Rattle.ax_filter.specs.declared.plan.Found.{Found};
+ghost use Rattle.ax_expressions.specs.Plans.{finds, plan_tree, says};
+ghost use Rattle.ax_expressions.specs.declared.plan.Found.{Found};
 ghost use Rattle.ax_view.specs.Shown.{record_entries};
 
-use crate::asking::FEW;
+use ax_expressions::FEW;
 use crate::deciding::says;
 use crate::filter::Filter;
-use crate::grouping::{asked_by, said_of_none};
+use ax_expressions::{asked_by, said_of_none};
 use crate::marks::marked_slots;
 use crate::memo::{Answer, Asked, Memo};
 use crate::passing::passes;
-use crate::plan::{CategoryPlan, Plan};
-use crate::slot_sets::meets;
+use ax_expressions::{CategoryPlan, Plan};
+use ax_expressions::meets;
 use ax_codec::Codec;
 use ax_format::{Record, Spec};
 use ax_view::{Notes, PlacedSlots, Places, RecordView, place_record};

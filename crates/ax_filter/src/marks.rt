@@ -1,6 +1,6 @@
 //! The marked slots of a record.
 ghost use Rattle.std.specs.Prelude.{◌≡◌};
-ghost use Rattle.ax_filter.specs.Plans.{MarkEach};
+ghost use Rattle.ax_expressions.specs.Plans.{MarkEach};
 ghost use Rattle.ax_view.specs.Shown.{record_entries};
 
 use ax_codec::Codec;

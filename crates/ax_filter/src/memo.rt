@@ -1,11 +1,11 @@
 //! What questions found in a record, each looked for once.
 ghost use Rattle.std.specs.Prelude.{◌≡◌, ℕ, Option, IfOk};
-ghost use Rattle.ax_filter.specs.Plans.{finds, found_in};
+ghost use Rattle.ax_expressions.specs.Plans.{finds, found_in};
 ghost use Rattle.ax_filter.specs.Memos.{NoneLater, Recalls};
-ghost use Rattle.ax_filter.specs.declared.plan.Found.{Found};
+ghost use Rattle.ax_expressions.specs.declared.plan.Found.{Found};
 
 use crate::places::HasPlaces;
-use crate::plan::{Asking, Found, Question};
+use ax_expressions::{Asking, Found, Question};
 use ax_fspec::Presence;
 use std::alloc::{AllocError, Global};
 

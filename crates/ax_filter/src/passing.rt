@@ -1,13 +1,13 @@
 //! Whether a test holds of a record. Nothing here takes memory.
 ghost use Rattle.std.specs.Prelude.{◌≡◌, map, option_and_then};
 ghost use Rattle.ax_format.specs.At.{is_present};
-ghost use Rattle.ax_filter.specs.Meaning.{compares, some_passes};
-ghost use Rattle.ax_filter.specs.Tests.{test_tree, tests_of, number_for, passes, all_pass, any_passes};
+ghost use Rattle.ax_expressions.specs.Meaning.{compares, some_passes};
+ghost use Rattle.ax_expressions.specs.Tests.{test_tree, tests_of, number_for, passes, all_pass, any_passes};
 
-use crate::comparing::compares_as;
-use crate::expr::Op;
+use ax_expressions::compares_as;
+use ax_expressions::Op;
 use crate::places::HasPlaces;
-use crate::test::{Element, Test, Tests};
+use ax_expressions::{Element, Test, Tests};
 use ax_format::Place;
 
 #[inline]
@@ -68,7 +68,7 @@ fn any_passes<R: HasPlaces>(tests: &Tests, category: u8, one: &R) -> bool
 
 /// Whether the test holds of a record of that category.
 #[cycle(pass)]
-#[tactic(auto, using(crate::proofs::Trees::passing))]
+#[tactic(auto, using(ax_expressions::proofs::Trees::passing))]
 pub fn passes<R: HasPlaces>(test: &Test, category: u8, one: &R) -> bool
     requires { R.sound one.now }
     ensures { result ≡ passes category (R.entries one.now) (test_tree test.now) }

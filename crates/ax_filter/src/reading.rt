@@ -2,23 +2,24 @@
 ghost use Rattle.std.specs.Prelude.{◌≡◌, ◌≤◌, length, IfOk, IfErr, OnOk};
 ghost use Rattle.ax_format.specs.Plain.{catalogue_tree};
 ghost use Rattle.ax_tokens.specs.Stopping.{texts_of};
-ghost use Rattle.ax_filter.specs.Faults.{PathsLead, IsFault};
-ghost use Rattle.ax_filter.specs.Leading.{IsPathFault};
-ghost use Rattle.ax_filter.specs.declared.error.FilterError.TheVariants as Fault;
-ghost use Rattle.ax_filter.specs.Plans.{PlanEach};
-ghost use Rattle.ax_filter.specs.OfCode.{expression, catalogue_of, IsFilterOf};
+ghost use Rattle.ax_expressions.specs.Faults.{PathsLead, IsFault};
+ghost use Rattle.ax_expressions.specs.Leading.{IsPathFault};
+ghost use Rattle.ax_expressions.specs.declared.error.FilterError.TheVariants as Fault;
+ghost use Rattle.ax_expressions.specs.Plans.{PlanEach};
+ghost use Rattle.ax_filter.specs.OfCode.{expression, catalogue_of};
+ghost use Rattle.ax_expressions.specs.FilterTokens.{IsFilterOf};
 
-use crate::asking::{FEW, asking_in_all, count_tests};
-use crate::error::FilterError;
-use crate::expr::Expr;
-use crate::faults::{PathFault, first_fault};
+use ax_expressions::{FEW, asking_in_all, count_tests};
+use ax_expressions::FilterError;
+use ax_expressions::Expr;
+use ax_expressions::{PathFault, first_fault};
 use crate::filter::Filter;
-use crate::plan::CategoryPlans;
-use crate::planning::plan_categories;
-use crate::questions::Numbering;
-use crate::resolving::resolve;
-use crate::syntax::{SyntaxError, read_expr};
-use crate::test::Test;
+use ax_expressions::CategoryPlans;
+use ax_expressions::plan_categories;
+use ax_expressions::Numbering;
+use ax_expressions::resolve;
+use ax_expressions::{SyntaxError, read_expr};
+use ax_expressions::Test;
 use ax_check::Catalogue;
 use ax_tokens::Tokens;
 use std::alloc::{AllocError, Global};
@@ -89,7 +90,7 @@ fn filter_of<'c>(
 
 /// The filter that the tokens spell over a catalogue. Else the fault of the smallest token number: BadToken names the
 /// first token through which no expression begins, UnknownPath and NotAnElement a path before it.
-#[tactic(auto, using(crate::proofs::Whole::filters))]
+#[tactic(auto, using(ax_expressions::proofs::Whole::filters))]
 pub fn read_filter<'c>(
     alloc: Global,
     tokens: &Tokens<'_>,

@@ -1,7 +1,7 @@
 -- What `filter` over views does with one block.
 use Rattle.std.proofs.Common.{◌≡◌, ℕ, ◌≤◌, List, [], Option, Some, None, Result, Ok, Err, length, take, refl, ◌∙◌, ap}
 use Rattle.ax_filter.specs.Matching.{filtered}
-use Rattle.ax_filter.specs.Tree.{ExprTree}
+use Rattle.ax_expressions.specs.Tree.{ExprTree}
 use Rattle.ax_filter_work.specs.FilterCommand.{filter_command}
 use Rattle.ax_filter_work.specs.Laid.{LaysMatching}
 use Rattle.ax_format.specs.Blocks.{read_block}

@@ -8,8 +8,8 @@ use Rattle.ax_bits.specs.Out.{Appends, written, room}
 use Rattle.ax_bits.specs.declared.output.Out.{Out}
 use Rattle.ax_canon.specs.Kept.{Says, Keeps, kept_octets, IsCanonicalIf}
 use Rattle.ax_filter.specs.Matching.{matching, some_block, canon_if, filtered}
-use Rattle.ax_filter.specs.Meaning.{holds}
-use Rattle.ax_filter.specs.Tree.{ExprTree}
+use Rattle.ax_expressions.specs.Meaning.{holds}
+use Rattle.ax_expressions.specs.Tree.{ExprTree}
 use Rattle.ax_filter_work.specs.Laid.{LaysMatchingBits, LaysMatching}
 use Rattle.ax_format.proofs.Once.{body_once}
 use Rattle.ax_format.proofs.RecordLaws.{record_shape}

@@ -1,7 +1,7 @@
 -- `filter`, over an expression.
 use Rattle.std.specs.Prelude.{List, [], filter_map}
 use Rattle.ax_filter.specs.Matching.{matching_block, filtered}
-use Rattle.ax_filter.specs.Tree.{ExprTree}
+use Rattle.ax_expressions.specs.Tree.{ExprTree}
 use Rattle.ax_format.specs.Blocks.{BlockTree}
 use Rattle.ax_format.specs.Specification.{SpecTree}
 use Rattle.ax_blocks.specs.Commands.{BlockCommand}

@@ -2,8 +2,8 @@
 use Rattle.std.specs.Prelude.{◌≡◌, ℕ, ◌*◌, ◌≤◌, Bool, List, length, take}
 use Rattle.ax_bits.specs.Bits.{bits}
 use Rattle.ax_filter.specs.Matching.{filtered}
-use Rattle.ax_filter.specs.Meaning.{holds}
-use Rattle.ax_filter.specs.Tree.{ExprTree}
+use Rattle.ax_expressions.specs.Meaning.{holds}
+use Rattle.ax_expressions.specs.Tree.{ExprTree}
 use Rattle.ax_format.specs.Blocks.{read_block}
 use Rattle.ax_format.specs.Bodies.{SpellsBody}
 use Rattle.ax_format.specs.Flaws.{NoFlaw}

@@ -6,11 +6,11 @@ use Rattle.ax_format.specs.Specification.{SpecTree}
 use Rattle.ax_format.specs.Tree.{EntriesTree, no_entries}
 use Rattle.ax_format.specs.declared.place.Place.{Place}
 use Rattle.ax_laws.specs.Absent.{IsWithout, HasNoneOf, HasNoneOfEach}
-use Rattle.ax_filter.specs.Faults.{place_in, element_in}
-use Rattle.ax_filter.specs.Meaning.{fixed_number, compares, some_passes, holds, all_hold, any_holds}
-use Rattle.ax_filter.specs.Tree.{ExprTree, all_of, any_of, not_of, present, compared, ExprsTree, no_exprs, expr_and}
-use Rattle.ax_filter.specs.declared.expr.FullPath.{FullPath}
-use Rattle.ax_filter.specs.declared.expr.Op.{Op}
+use Rattle.ax_expressions.specs.Faults.{place_in, element_in}
+use Rattle.ax_expressions.specs.Meaning.{fixed_number, compares, some_passes, holds, all_hold, any_holds}
+use Rattle.ax_expressions.specs.Tree.{ExprTree, all_of, any_of, not_of, present, compared, ExprsTree, no_exprs, expr_and}
+use Rattle.ax_expressions.specs.declared.expr.FullPath.{FullPath}
+use Rattle.ax_expressions.specs.declared.expr.Op.{Op}
 
 -- ---- one path
 

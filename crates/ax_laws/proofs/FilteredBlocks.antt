@@ -2,7 +2,7 @@
 use Rattle.std.proofs.Common.{◌≡◌, ℕ, ◌+◌, List, [], ◌∷◌, ◌++◌, Some, refl, sym, ◌∙◌, ap}
 use Rattle.std.specs.List.{cons_option}
 use Rattle.ax_filter.specs.Matching.{matching, some_block, matching_block, canon_if, filtered}
-use Rattle.ax_filter.specs.Tree.{ExprTree}
+use Rattle.ax_expressions.specs.Tree.{ExprTree}
 use Rattle.ax_filter_work.specs.FilterCommand.{filter_command, matching_blocks}
 use Rattle.ax_format.specs.Blocks.{BlockTree, read_block, opaque_block, SpellsBlock, SpellsStream}
 use Rattle.ax_format.specs.CanonicalOctets.{CanonBytes, canon_over}

@@ -4,9 +4,9 @@ use Rattle.ax_format.specs.At.{slot_value}
 use Rattle.ax_format.specs.Specification.{SpecTree}
 use Rattle.ax_format.specs.Tree.{EntriesTree}
 use Rattle.ax_format.specs.declared.place.Place.{Place}
-use Rattle.ax_filter.specs.Faults.{place_in}
-use Rattle.ax_filter.specs.Tree.{ExprTree, all_of, any_of, not_of, present, compared, ExprsTree, no_exprs, expr_and}
-use Rattle.ax_filter.specs.declared.expr.FullPath.{FullPath}
+use Rattle.ax_expressions.specs.Faults.{place_in}
+use Rattle.ax_expressions.specs.Tree.{ExprTree, all_of, any_of, not_of, present, compared, ExprsTree, no_exprs, expr_and}
+use Rattle.ax_expressions.specs.declared.expr.FullPath.{FullPath}
 
 -- if the path is one of the category, the record hasn't its item
 abbrev pub IsWithout : List SpecTree → ℕ → EntriesTree → FullPath → Type 0

@@ -5,10 +5,10 @@ use Rattle.ax_format.specs.Tree.{element, group, members_of, named, fixed, numbe
 use Rattle.ax_format.specs.declared.content.Content.TheVariants.{Integer}
 use Rattle.ax_format.specs.declared.content.Sign.TheVariants.{Unsigned, Signed}
 use Rattle.ax_format.specs.declared.spec.UapSlot.TheVariants as Uap
-use Rattle.ax_filter.specs.Meaning.{holds}
-use Rattle.ax_filter.specs.Tree.{ExprTree, compared}
-use Rattle.ax_filter.specs.declared.expr.FullPath.{FullPath}
-use Rattle.ax_filter.specs.declared.expr.Op.{Op}
+use Rattle.ax_expressions.specs.Meaning.{holds}
+use Rattle.ax_expressions.specs.Tree.{ExprTree, compared}
+use Rattle.ax_expressions.specs.declared.expr.FullPath.{FullPath}
+use Rattle.ax_expressions.specs.declared.expr.Op.{Op}
 
 abbrev pub two_numbers : SpecTree
 two_numbers = record {

@@ -5,15 +5,15 @@ ghost use Rattle.ax_tokens.specs.Stopping.{texts_of};
 ghost use Rattle.ax_tokens.specs.PlainToken.{PlainToken};
 ghost use Rattle.ax_format.specs.Tree.{EntriesTree, no_entries};
 ghost use Rattle.ax_laws.specs.Absent.{HasNoneOf};
-ghost use Rattle.ax_filter.specs.Answers.{Spells};
-ghost use Rattle.ax_filter.specs.Faults.{IsFault};
-ghost use Rattle.ax_filter.specs.Meaning.{holds};
-ghost use Rattle.ax_filter.specs.OfCode.{IsFilterOf};
-ghost use Rattle.ax_filter.specs.Texts.{IsFilterText, IsRefused};
-ghost use Rattle.ax_filter.specs.Tree.{ExprTree};
-ghost use Rattle.ax_filter.specs.declared.error.FilterError.{FilterError};
-ghost use Rattle.ax_filter.specs.declared.error.FilterError.TheVariants as Fault;
-ghost use Rattle.ax_filter.specs.declared.text.FilterFault.{FilterFault};
+ghost use Rattle.ax_expressions.specs.Answers.{Spells};
+ghost use Rattle.ax_expressions.specs.Faults.{IsFault};
+ghost use Rattle.ax_expressions.specs.Meaning.{holds};
+ghost use Rattle.ax_expressions.specs.FilterTokens.{IsFilterOf};
+ghost use Rattle.ax_expressions.specs.Texts.{IsFilterText, IsRefused};
+ghost use Rattle.ax_expressions.specs.Tree.{ExprTree};
+ghost use Rattle.ax_expressions.specs.declared.error.FilterError.{FilterError};
+ghost use Rattle.ax_expressions.specs.declared.error.FilterError.TheVariants as Fault;
+ghost use Rattle.ax_expressions.specs.declared.stop.FilterFault.{FilterFault};
 
 /// Tokens spell one expression at most.
 pub fn expression_once()

@@ -3,10 +3,10 @@
 ghost use Rattle.std.specs.Prelude.{◌≡◌, true, false, [], ◌∷◌, codes, pos, negsuc};
 ghost use Rattle.ax_format.specs.Tree.{no_entries};
 ghost use Rattle.ax_laws.specs.FilterExamples.{two_numbers, both_200, item, member, holds_of, is};
-ghost use Rattle.ax_filter.specs.Meaning.{holds};
-ghost use Rattle.ax_filter.specs.Spelling.{expr_texts};
-ghost use Rattle.ax_filter.specs.Tree.{all_of, any_of, not_of, present, compared, no_exprs, expr_and};
-ghost use Rattle.ax_filter.specs.declared.expr.Op.TheVariants.{Equal, Unequal, Less, Greater};
+ghost use Rattle.ax_expressions.specs.Meaning.{holds};
+ghost use Rattle.ax_expressions.specs.Spelling.{expr_texts};
+ghost use Rattle.ax_expressions.specs.Tree.{all_of, any_of, not_of, present, compared, no_exprs, expr_and};
+ghost use Rattle.ax_expressions.specs.declared.expr.Op.TheVariants.{Equal, Unequal, Less, Greater};
 
 /// The tokens of an expression, with each path in full.
 pub fn tokens_of_expressions()

@@ -1,7 +1,7 @@
 //! The law of `filter`. The function stands for what its contract says.
 
 ghost use Rattle.std.specs.Prelude.{◌≡◌, ℕ, List, []};
-ghost use Rattle.ax_filter.specs.Tree.{ExprTree};
+ghost use Rattle.ax_expressions.specs.Tree.{ExprTree};
 ghost use Rattle.ax_filter_work.specs.FilterCommand.{filter_command, matching_blocks};
 ghost use Rattle.ax_format.specs.Blocks.{BlockTree, SpellsStream};
 ghost use Rattle.ax_format.specs.CanonicalOctets.{CanonBytes};

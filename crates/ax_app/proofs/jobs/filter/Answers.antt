@@ -1,7 +1,7 @@
 use Rattle.std.proofs.Common.{refl, sym, subst}
 use Rattle.ax_command.specs.declared.outcome.Refusal.TheVariants.{FilterRefused}
 use Rattle.ax_filter.specs.OfCode.{expression}
-use Rattle.ax_filter.specs.Texts.{IsFilterText}
+use Rattle.ax_expressions.specs.Texts.{IsFilterText}
 use Rattle.ax_format.specs.Plain.{catalogue_tree}
 use Rattle.ax_words.specs.declared.line.Line.TheVariants.{Filter}
 use Rattle.ax_app.specs.Given.{only}

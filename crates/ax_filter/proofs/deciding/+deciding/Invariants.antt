@@ -1,6 +1,6 @@
 use Rattle.std.proofs.Common.{◌≡◌, drop}
 use Rattle.ax_filter.specs.Memos.{Recalls}
-use Rattle.ax_filter.specs.Plans.{finds, level_says}
+use Rattle.ax_expressions.specs.Plans.{finds, level_says}
 use Rattle.ax_filter.proofs.deciding.+deciding.Given as goal
 
 abbrev pub invariant-many_say-loop-plan : goal.invariant-many_say-loop-plan

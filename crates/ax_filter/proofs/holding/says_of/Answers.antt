@@ -1,6 +1,6 @@
 use Rattle.std.proofs.Common.{None, ◌∙◌, ap, sym, rules}
-use Rattle.ax_filter.proofs.Levels.{quiet_says}
-use Rattle.ax_filter.specs.Plans.{finds, meets, plan_tree}
+use Rattle.ax_expressions.proofs.Levels.{quiet_says}
+use Rattle.ax_expressions.specs.Plans.{finds, meets, plan_tree}
 use Rattle.ax_view.specs.Shown.{record_entries}
 use Rattle.ax_filter.proofs.holding.says_of.Goals as goal
 

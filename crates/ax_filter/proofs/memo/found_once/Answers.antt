@@ -1,6 +1,6 @@
 use Rattle.std.proofs.Common.{arith, refl}
 use Rattle.ax_filter.proofs.Memos.{recalls_one_more}
-use Rattle.ax_filter.specs.Plans.{finds}
+use Rattle.ax_expressions.specs.Plans.{finds}
 use Rattle.ax_filter.proofs.memo.found_once.Goals as goal
 
 pub returns-clause-answers : goal.returns-clause-answers

@@ -1,5 +1,5 @@
 use Rattle.std.proofs.Common.{rules}
-use Rattle.ax_filter.proofs.Trees.{all_passes, some_pass, same_place}
+use Rattle.ax_expressions.proofs.Trees.{all_passes, some_pass, same_place}
 use Rattle.ax_filter.proofs.passing.+pass.Goals as goal
 
 pub passes-returns-in-All : goal.passes-returns-in-All

@@ -1,5 +1,5 @@
 use Rattle.std.proofs.Common.{◌≡◌, drop, map}
-use Rattle.ax_filter.specs.Tests.{test_tree, tests_of, all_pass, any_passes}
+use Rattle.ax_expressions.specs.Tests.{test_tree, tests_of, all_pass, any_passes}
 use Rattle.ax_filter.proofs.passing.+pass.Given as goal
 
 abbrev pub invariant-all_pass-loop-test : goal.invariant-all_pass-loop-test

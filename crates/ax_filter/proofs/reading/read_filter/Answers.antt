@@ -1,8 +1,9 @@
 use Rattle.std.proofs.Common.{rules}
 use Rattle.std.proofs.lemmas.Result.{err_from_is_err_and}
 use Rattle.ax_format.specs.Plain.{catalogue_tree}
-use Rattle.ax_filter.specs.Tree.{expr_tree}
-use Rattle.ax_filter.proofs.Whole.{over, filter_over, fault_in, fault_before}
+use Rattle.ax_expressions.specs.Tree.{expr_tree}
+use Rattle.ax_expressions.proofs.Whole.{over, fault_in, fault_before}
+use Rattle.ax_filter.proofs.Read.{filter_over}
 use Rattle.ax_filter.proofs.reading.read_filter.Goals as goal
 
 pub returns-in_ok-judge_paths-in-Ok-clause-spells : goal.returns-in_ok-judge_paths-in-Ok-clause-spells

@@ -1,4 +1,4 @@
-use Rattle.ax_filter.proofs.Once.{one_expression}
+use Rattle.ax_expressions.proofs.Once.{one_expression}
 use Rattle.ax_laws.proofs.filter.expression_once.Goals as goal
 
 pub returns : goal.returns

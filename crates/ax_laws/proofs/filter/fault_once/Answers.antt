@@ -1,4 +1,4 @@
-use Rattle.ax_filter.proofs.Once.{one_fault, no_fault}
+use Rattle.ax_expressions.proofs.Once.{one_fault, no_fault}
 use Rattle.ax_laws.proofs.filter.fault_once.Goals as goal
 
 pub returns : goal.returns

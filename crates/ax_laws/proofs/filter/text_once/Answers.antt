@@ -1,4 +1,4 @@
-use Rattle.ax_filter.proofs.TextStops.{filter_once, refused_once, filter_not_refused}
+use Rattle.ax_expressions.proofs.TextStops.{filter_once, refused_once, filter_not_refused}
 use Rattle.ax_laws.proofs.filter.text_once.Goals as goal
 
 pub returns : goal.returns

@@ -1,0 +1,12 @@
+pub mod Answers
+pub mod Faults
+pub mod FilterTokens
+pub mod Leading
+pub mod Meaning
+pub mod Parts
+pub mod Plans
+pub mod Spelling
+pub mod Tests
+pub mod Texts
+pub mod Tree
+pub mod Words

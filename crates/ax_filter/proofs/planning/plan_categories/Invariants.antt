@@ -1,9 +1,0 @@
-use Rattle.std.proofs.Common.{◌≡◌, length}
-use Rattle.ax_filter.specs.Plans.{PlanEach}
-use Rattle.ax_filter.proofs.planning.plan_categories.Given as goal
-
-abbrev pub invariant-loop-category : goal.invariant-loop-category
-invariant-loop-category l = record {
-  size : length l.made ≡ l.category;
-  planned : PlanEach l.numbering.questions l.made l.test;
-}

@@ -1,5 +1,0 @@
-use Rattle.ax_filter.proofs.SameSlots.{put_by}
-use Rattle.ax_filter.proofs.same_slot.put.Goals as goal
-
-pub returns-in_ok-push : goal.returns-in_ok-push
-returns-in_ok-push c = put_by c.args.all c.args.made.now.items c.args.row.now c.push-else-open.new.self.items c.args.plan c.in_ok-push.ensures.items

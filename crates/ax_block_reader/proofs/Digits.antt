@@ -1,4 +1,4 @@
--- Categories in three digits, and the first token.
+-- The category of the next token, and the first one of a catalogue.
 use Rattle.std.proofs.Common.{◌≡◌, ℕ, ◌<◌, cond, List, [], ◌∷◌, length, drop, slice_get, Some, None, sym, ◌∙◌, ap, refl}
 use Rattle.std.specs.Prelude.{Option}
 use Rattle.std.proofs.lemmas.Bool.{eq-eqb}
@@ -9,11 +9,6 @@ use Rattle.ax_format.specs.Plain.{spec_tree, catalogue_tree}
 use Rattle.ax_format.specs.Specification.{spec_of}
 use Rattle.ax_format.specs.declared.spec.Spec.{Spec}
 use Rattle.ax_block_reader.specs.BlockForms.{IsCategoryText}
-
-pub no_three : (text : List ℕ) → (length text ≡ 3 → ⊥) → (n : ℕ) → n < 256 → text ≡ three_digits n → ⊥
-no_three text none n lt e = none (ap length e)
-
-pub ruleset categories = no_three
 
 -- ---- the next token
 

@@ -24,7 +24,7 @@ use Rattle.ax_block_reader.specs.Entries.{slot_texts, SlotNamed, IsNotNamed, IsN
 use Rattle.ax_block_reader.specs.Languages.{entries_texts}
 use Rattle.ax_block_reader.proofs.Continuations.{tails, no_text, first_read, first_front, cut_stops}
 use Rattle.ax_block_reader.proofs.Collecting.{Collects, none_collected, more_collected, all_collected, same_put, left_lacks, one_collected, one_lacks, skip_collected, Closes, closing_read, closing_lacks}
-use Rattle.ax_block_reader.proofs.Onto.{kind_more}
+use Rattle.ax_text.proofs.Onto.{kind_more}
 
 abbrev AreEntries : ℕ → SlotsTree → Texts → Type 0
 AreEntries s ss = Spelled (EntriesShape s ss) (entries_texts s ss)
@@ -254,11 +254,5 @@ entries_read all left s made old now new e r f =
     (subst (λ z. IsRead (EntriesShape s z) (entries_texts s z) no_entries now new) (sym e) (closing_read (EntriesShape s no_slots) (entries_texts s no_slots) no_entries now new (entries_close s) f)))
 
 -- ---- the slots of a compound
-
-pub slots_from : (slots : List Slot) (i : ℕ) (slot : Slot) → i < length slots → slot ≡ get_or slots i slot → slots_tree (drop i slots) ≡ slot_and (slot_tree slot) (slots_tree (drop (i + 1) slots))
-slots_from slots i slot lt at = ap slots_tree (from_place slots i slot lt at)
-
-pub slots_past : (slots : List Slot) (i : ℕ) → length slots ≤ i → slots_tree (drop i slots) ≡ no_slots
-slots_past slots i le = ap slots_tree (drop_all i slots le)
 
 pub ruleset entries_ways = no_entry_read

@@ -24,6 +24,7 @@ use Rattle.ax_block_reader.specs.Continuing.{Done, Spelled, IsRead}
 use Rattle.ax_block_reader.specs.Languages.{IsNumberText, fixed_texts, member_texts, members_texts}
 use Rattle.ax_block_reader.proofs.Continuations.{tails, no_text, word_read, lacks_there, Prefixed, prefix_lacks, prefix_read}
 use Rattle.ax_block_reader.proofs.Collecting.{prefix_is_read}
+use Rattle.ax_text.proofs.KindTrees.{element_tree, group_tree, named_tree, spare_tree}
 
 -- ---- what is due
 
@@ -88,18 +89,6 @@ number_is_read w n old new lt e = record {
 }
 
 -- ---- the trees of the code's variants
-
-pub element_tree : (fixed : Fixed) (w : ℕ) (c : Content) → fixed ≡ Element w c → fixed_tree fixed ≡ element w c
-element_tree fixed w c e = ap fixed_tree e ∙ of_element w c
-
-pub group_tree : (fixed : Fixed) (ms : List Member) → fixed ≡ Group ms → fixed_tree fixed ≡ group (members_tree ms)
-group_tree fixed ms e = ap fixed_tree e ∙ of_group ms
-
-pub named_tree : (member : Member) (name : List ℕ) (f : Fixed) → member ≡ Named name f → member_tree member ≡ named name (fixed_tree f)
-named_tree member name f e = ap member_tree e ∙ ap member_tree (sym (rolls-Named name f)) ∙ fold-roll-Member FixedTree MemberTree fixed_step member_step (Member-F.Named name f)
-
-pub spare_tree : (member : Member) (w : ℕ) → member ≡ Spare w → member_tree member ≡ spare w
-spare_tree member w e = ap member_tree e ∙ ap member_tree (sym (rolls-Spare w)) ∙ fold-roll-Member FixedTree MemberTree fixed_step member_step (Member-F.Spare w)
 
 -- ---- a value of a fixed kind
 

@@ -1,6 +1,5 @@
 pub mod Continuations
 pub mod Collecting
-pub mod Onto
 pub mod Decimals
 pub mod ShortNumbers
 pub mod FixedWays

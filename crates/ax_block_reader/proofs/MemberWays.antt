@@ -18,7 +18,7 @@ use Rattle.ax_block_reader.specs.Languages.{member_texts, members_texts}
 use Rattle.ax_block_reader.proofs.Continuations.{no_text, tails, same_read, same_front}
 use Rattle.ax_block_reader.proofs.Collecting.{Collects, none_collected, more_collected, all_collected, same_put, left_lacks, one_collected, one_lacks, Closes, closing_read}
 use Rattle.ax_block_reader.proofs.FixedWays.{members_due_texts}
-use Rattle.ax_block_reader.proofs.Onto.{member_more}
+use Rattle.ax_text.proofs.Onto.{member_more}
 
 -- ---- values in front of others
 

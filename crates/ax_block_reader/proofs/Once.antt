@@ -14,7 +14,8 @@ use Rattle.ax_text.proofs.BlocksOnce.{same_block}
 use Rattle.ax_text.specs.BlockText.{BlockText}
 use Rattle.ax_text.specs.Names.{IsNamed}
 use Rattle.ax_text.specs.Tokens.{TextOver, kind_of, BlockTokens}
-use Rattle.ax_block_reader.specs.BlockTexts.{IsBlockOf, block_texts, IsBlockText, canonical_length, Spells, IsTextOf, IsLongText, IsFault}
+use Rattle.ax_block_reader.specs.BlockTexts.{block_texts, IsBlockText, canonical_length, Spells, IsTextOf, IsLongText, IsFault}
+use Rattle.ax_text.specs.CatalogueBlocks.{IsBlockOf}
 use Rattle.ax_block_reader.specs.declared.error.TextError.{TextError}
 use Rattle.ax_block_reader.specs.declared.error.TextError.TheVariants.{BadToken, TooLong, OutOfMemory}
 

@@ -19,7 +19,7 @@ use Rattle.ax_block_reader.specs.Languages.{members_texts, braced_texts, part_te
 use Rattle.ax_block_reader.proofs.Continuations.{heads, tails, no_text, same_read, same_front, Prefixed, prefix_lacks}
 use Rattle.ax_block_reader.proofs.Collecting.{prefix_gives, Collects, more_collected, all_collected, same_put, left_lacks, one_collected, one_lacks, skip_collected, Closes, closing_read, closing_lacks, closing_cut}
 use Rattle.ax_block_reader.proofs.FixedWays.{members_due_texts}
-use Rattle.ax_block_reader.proofs.Onto.{part_more}
+use Rattle.ax_text.proofs.Onto.{part_more}
 
 -- ---- a part
 

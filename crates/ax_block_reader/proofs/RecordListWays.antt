@@ -17,7 +17,7 @@ use Rattle.ax_block_reader.specs.Records.{record_texts, SomeRecords, records_tex
 use Rattle.ax_block_reader.proofs.Continuations.{heads, tails, no_text, same_read, same_front, Prefixed, prefix_lacks}
 use Rattle.ax_block_reader.proofs.Collecting.{prefix_gives, Collects, none_collected, more_collected, all_collected, same_put, left_lacks, one_collected, one_lacks, skip_collected, Closes, closing_read, closing_cut}
 use Rattle.ax_block_reader.proofs.EntryWays.{no_entries_fit}
-use Rattle.ax_block_reader.proofs.Onto.{entries_more}
+use Rattle.ax_text.proofs.Onto.{entries_more}
 
 -- ---- records in front of others
 

@@ -30,6 +30,7 @@ use Rattle.ax_block_reader.proofs.Continuations.{lacks_there, Prefixed, prefix_l
 use Rattle.ax_block_reader.proofs.Collecting.{prefix_is_read, prefix_gives}
 use Rattle.ax_block_reader.proofs.EntryWays.{entries_due}
 use Rattle.ax_block_reader.proofs.KindWays.{slot_way, slot_is_read}
+use Rattle.ax_text.proofs.SlotTrees.{slot_has, item_there, name_there}
 
 -- ---- the slot of an item by its name
 
@@ -40,9 +41,6 @@ is_named name (subitem other k) h n = subst IsName (sym h) n
 not_named : (name : List ℕ) (slot : SlotTree) (texts : Texts) → HasName name slot → IsNotFirst (λ text. text ≡ name) texts → IsNotNamed slot texts
 not_named name spare_slot texts h n = tt
 not_named name (subitem other k) texts h n = subst (λ w. IsNotFirst (λ text. text ≡ w) texts) (sym h) n
-
-slot_has : (items : List Item) (slot : UapSlot) (name : List ℕ) → slot ≡ Uap.Item name → HasName name (uap_slot (map item_tree items) slot)
-slot_has items slot name e = subst (λ s. HasName name (uap_slot (map item_tree items) s)) (sym e) (found_named name (map item_tree items))
 
 pub spare_named : (items : List Item) (slot : UapSlot) → slot ≡ Uap.Spare → SlotNamed (uap_slot (map item_tree items) slot)
 spare_named items slot e = subst (λ s. SlotNamed (uap_slot (map item_tree items) s)) (sym e) tt
@@ -62,14 +60,6 @@ other_comes items slot name word text texts e same is n =
 pub none_has : (items : List Item) (slot : UapSlot) (texts : Texts) → item_of_slot (Some slot) items ≡ None → IsNotNamed (uap_slot (map item_tree items) slot) texts
 none_has items slot texts e = subst (λ s. IsNotNamed s texts) (sym (spare_is items slot e)) tt
 
-pub item_there : (items : List Item) (slot : UapSlot) (item : Item) → item_of_slot (Some slot) items ≡ Some item → uap_slot (map item_tree items) slot ≡ subitem item.name (kind_tree item.kind)
-item_there items slot item e = item_is items slot item e
-
-pub name_there : (items : List Item) (slot : UapSlot) (item : Item) (name word text : List ℕ) (texts new : Texts) → slot ≡ Uap.Item name → word ≡ name → item_of_slot (Some slot) items ≡ Some item → texts ≡ text ∷ drop 1 texts → text ≡ word → new ≡ drop 1 texts → texts ≡ item.name ∷ new
-name_there items slot item name word text texts new e same found is h n =
-    let has : item.name ≡ name = subst (HasName name) (item_is items slot item found) (slot_has items slot name e) in
-    is ∙ (λ i. (h ∙ same ∙ sym has) i ∷ sym n i)
-
 pub ruleset item_steps = (spare_named, spare_skipped, item_named, other_comes, none_has, item_there, name_there)
 
 -- ---- its value
@@ -88,15 +78,6 @@ item_is_read slot item v old mid new e h r = slot_is_read slot item.name (kind_t
 pub ruleset value_steps = readable_item
 
 -- ---- the slots of the UAP
-
-abbrev pub slots_of_uap : List Item → List UapSlot → SlotsTree
-slots_of_uap items uap = slots_of (map (uap_slot (map item_tree items)) uap)
-
-pub uap_from : (items : List Item) (uap : List UapSlot) (i : ℕ) (slot : UapSlot) → i < length uap → slot ≡ get_or uap i slot → slots_of_uap items (drop i uap) ≡ slot_and (uap_slot (map item_tree items) slot) (slots_of_uap items (drop (i + 1) uap))
-uap_from items uap i slot lt at = ap (slots_of_uap items) (from_place uap i slot lt at)
-
-pub uap_past : (items : List Item) (uap : List UapSlot) (i : ℕ) → length uap ≤ i → slots_of_uap items (drop i uap) ≡ no_slots
-uap_past items uap i le = ap (slots_of_uap items) (drop_all i uap le)
 
 -- ---- records
 

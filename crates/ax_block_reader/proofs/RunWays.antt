@@ -15,7 +15,7 @@ use Rattle.ax_block_reader.proofs.Continuations.{same_read, same_front}
 use Rattle.ax_block_reader.proofs.Collecting.{Collects, none_collected, more_collected, all_collected, same_put, left_lacks, one_collected, one_lacks, skip_collected, Closes, closing_read, closing_cut}
 use Rattle.ax_block_reader.proofs.Firsts.{fixed_first, each_closes}
 use Rattle.ax_block_reader.proofs.MemberWays.{values_before, before_none, before_more}
-use Rattle.ax_block_reader.proofs.Onto.{fixed_more}
+use Rattle.ax_text.proofs.Onto.{fixed_more}
 
 module _ (f : FixedTree) where
   abbrev S : ValueTree → Type 0

@@ -6,7 +6,7 @@ use Rattle.ax_format.specs.Paths.{three_digits}
 use Rattle.ax_format.specs.Specification.{SpecTree, spec_of}
 use Rattle.ax_format.specs.Tree.{EntriesTree}
 use Rattle.ax_text.specs.ValueText.{hex_text}
-use Rattle.ax_block_reader.specs.BlockTexts.{IsBlockOf}
+use Rattle.ax_text.specs.CatalogueBlocks.{IsBlockOf}
 use Rattle.ax_block_reader.specs.Records.{braced_records_texts}
 use Rattle.ax_block_reader.specs.declared.blocks.BlockForm.{BlockForm}
 use Rattle.ax_block_reader.specs.declared.blocks.BlockForm.TheVariants.{Read, Opaque}

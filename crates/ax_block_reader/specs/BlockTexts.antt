@@ -8,17 +8,13 @@ use Rattle.ax_format.specs.Blocks.{BlockTree}
 use Rattle.ax_format.specs.CanonicalOctets.{canon_over, category_of}
 use Rattle.ax_format.specs.Lengths.{capped}
 use Rattle.ax_format.specs.Specification.{SpecTree, spec_of}
-use Rattle.ax_text.specs.Tokens.{TextOver, IsOfCatalogue}
+use Rattle.ax_text.specs.CatalogueBlocks.{IsBlockOf}
+use Rattle.ax_text.specs.Tokens.{TextOver}
 use Rattle.ax_block_reader.specs.Continuing.{Spelled}
 use Rattle.ax_block_reader.specs.declared.error.TextError.{TextError}
 use Rattle.ax_block_reader.specs.declared.error.TextError.TheVariants.{BadToken, TooLong, OutOfMemory}
 
--- a block that fits the catalogue: of a specification where the catalogue has one for its category, else an opaque one
-pub record IsBlockOf (catalogue : List SpecTree) (block : BlockTree) : Type 0 where
-  pub fits : IsOfCatalogue catalogue block
-  pub category : category_of block < 256
-
--- its text
+-- the text of a block of the catalogue
 abbrev pub block_texts : List SpecTree → BlockTree → Texts
 block_texts catalogue block = TextOver (spec_of (category_of block) catalogue) block
 

@@ -7,20 +7,10 @@ ghost use Rattle.ax_tokens.specs.Stopping.{IsNotFirst};
 ghost use Rattle.ax_tokens.specs.declared.stopped.Stopped.TheVariants.{Bad};
 ghost use Rattle.ax_block_reader.specs.BlockForms.{HasCategory, IsCategoryText, LacksCategory};
 
-use ax_format::{Spec, category_of_digits};
+use ax_format::Spec;
+use ax_text::category_of;
 use ax_tokens::{Reader, Stopped};
 use ax_uap::CatalogueItems;
-
-/// The category that the text is, in three digits. None comes exactly where it is none.
-#[tactic(auto, using(crate::proofs::Digits::categories))]
-pub fn category_of(text: &[u8]) -> Option<u8>
-    ensures { MatchOption result ((n : ℕ) → n < 256 → text.now ≡ three_digits n → ⊥) (λ n. (n < 256) × (text.now ≡ three_digits n)) }
-{
-    let [hundreds, tens, ones] = text else {
-        return None;
-    };
-    category_of_digits(*hundreds, *tens, *ones)
-}
 
 /// The category of the next token, which isn't read yet.
 #[tactic(auto, using(crate::proofs::Digits::peeking))]

@@ -18,8 +18,6 @@ mod records;
 
 pub use ax_uap::CatalogueItems;
 pub use catalogue_items::items_of;
-pub use categories::category_of;
 pub use error::TextError;
 pub use numbers::short_number;
-pub use octets::unquoted;
 pub use reading::{SizedBlock, read_block_over, read_block_text};

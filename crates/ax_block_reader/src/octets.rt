@@ -12,25 +12,13 @@ ghost use Rattle.ax_block_reader.specs.Continuing.{Gives};
 ghost use Rattle.ax_block_reader.specs.Languages.{kind_texts, IsNoDigits, IsNoHexText, IsContent, HexAt};
 
 use ax_format::{Octets, Value};
+use ax_text::unquoted;
 use ax_tokens::{Reader, Stopped};
 use hex::FromHexError;
 use std::alloc::{AllocError, Global};
 
 // The most octets of a list. A text has fewer than 2^32 octets, so its digits never stand for as many.
 const MOST: usize = 0x8000_0000;
-
-/// What stands between the quotes. None comes exactly where the text doesn't stand in quotes.
-pub fn unquoted(text: &[u8]) -> Option<&[u8]>
-    ensures { MatchOption result ((inner : List ℕ) → text.now ≡ quote ∷ (inner ++ quote ∷ []) → ⊥) (λ inner. text.now ≡ quote ∷ (inner.now ++ quote ∷ [])) }
-{
-    match text.split_first() {
-        Some((b'"', rest)) => match rest.split_last() {
-            Some((b'"', inner)) => Some(inner),
-            _ => None,
-        },
-        _ => None,
-    }
-}
 
 /// Whether these are the digits of the octets.
 fn are_digits_of(alloc: Global, digits: &[u8], octets: &[u8]) -> Result<bool, AllocError>

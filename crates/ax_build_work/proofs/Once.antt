@@ -2,7 +2,8 @@
 use Rattle.std.proofs.Common.{◌≡◌, ℕ, ◌<◌, ◌≤◌, List, [], ◌∷◌, Some, length, refl, sym, ◌∙◌, ap, subst, arith}
 use Rattle.std.specs.List.{AllByRecursion}
 use Rattle.ax_block_reader.proofs.Once.{printed_tokens}
-use Rattle.ax_block_reader.specs.BlockTexts.{IsBlockOf, IsBlockText, canonical_length, Spells, IsLongText}
+use Rattle.ax_block_reader.specs.BlockTexts.{IsBlockText, canonical_length, Spells, IsLongText}
+use Rattle.ax_text.specs.CatalogueBlocks.{IsBlockOf}
 use Rattle.ax_build_work.specs.BuildCommand.{deepest, IsBuiltOf, IsRefusedFor, AnswersSome, AnswersTokens, AnswersLine, by_tokens, by_octet, by_brace, build_command}
 use Rattle.ax_lines.specs.declared.text_fault.TextFault.{TextFault}
 use Rattle.ax_lines.specs.declared.text_fault.TextFault.TheVariants.{LineTooLong, BadByte, TooDeep, BadToken, TooLong}

@@ -2,7 +2,8 @@
 use Rattle.std.proofs.Common.{◌≡◌, ℕ, ◌≤◌, List, [], ◌∷◌, ◌++◌, length, Some, sym, ◌∙◌, ap, subst, arith}
 use Rattle.ax_bits.specs.Bits.{bits, AreOctets}
 use Rattle.ax_block_reader.proofs.Once.{printed_texts}
-use Rattle.ax_block_reader.specs.BlockTexts.{IsBlockOf, canonical_length}
+use Rattle.ax_block_reader.specs.BlockTexts.{canonical_length}
+use Rattle.ax_text.specs.CatalogueBlocks.{IsBlockOf}
 use Rattle.ax_build_work.specs.BuildCommand.{AnswersLine, by_tokens, deepest}
 use Rattle.ax_lines.specs.Commands.{gives}
 use Rattle.ax_format.proofs.CanonFramed.{length-framed}

@@ -1,6 +1,7 @@
 //! From a line to the octets of its block.
 ghost use Rattle.std.specs.Prelude.{◌≡◌, ◌≤◌, ◌^◌, length, IfOk, IfErr, MatchOption};
-ghost use Rattle.ax_block_reader.specs.BlockTexts.{IsBlockOf, canonical_length};
+ghost use Rattle.ax_block_reader.specs.BlockTexts.{canonical_length};
+ghost use Rattle.ax_text.specs.CatalogueBlocks.{IsBlockOf};
 ghost use Rattle.ax_build_work.specs.BuildCommand.{IsBuiltOf, AnswersLine};
 ghost use Rattle.ax_build_work.specs.Stops.{NotBuilt, StopsLine};
 ghost use Rattle.ax_lines.specs.Commands.{gives, nothing};

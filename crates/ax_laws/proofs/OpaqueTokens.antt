@@ -2,7 +2,8 @@
 use Rattle.std.proofs.Common.{◌≡◌, ℕ, ◌+◌, ◌<◌, ◌≤◌, List, [], ◌∷◌, length, map, Option, Some, None, refl, sym, ◌∙◌, ap, subst, arith}
 use Rattle.std.specs.Prelude.{codes}
 use Rattle.ax_bits.specs.Bits.{AreOctets}
-use Rattle.ax_block_reader.specs.BlockTexts.{IsBlockOf, block_texts, canonical_length, Spells}
+use Rattle.ax_block_reader.specs.BlockTexts.{block_texts, canonical_length, Spells}
+use Rattle.ax_text.specs.CatalogueBlocks.{IsBlockOf}
 use Rattle.ax_build_work.specs.BuildCommand.{build_command, by_tokens, deepest, IsBuiltOf}
 use Rattle.ax_lines.specs.Commands.{gives}
 use Rattle.ax_format.proofs.CanonFramed.{length-framed}

@@ -9,7 +9,8 @@ ghost use Rattle.ax_tokens.specs.PlainToken.{PlainToken};
 ghost use Rattle.ax_text.specs.BlockText.{BlockText};
 ghost use Rattle.ax_text.specs.Names.{IsNamed};
 ghost use Rattle.ax_text.specs.Tokens.{BlockTokens};
-ghost use Rattle.ax_block_reader.specs.BlockTexts.{IsBlockOf, block_texts, Spells, IsTextOf, IsFault};
+ghost use Rattle.ax_block_reader.specs.BlockTexts.{block_texts, Spells, IsTextOf, IsFault};
+ghost use Rattle.ax_text.specs.CatalogueBlocks.{IsBlockOf};
 ghost use Rattle.ax_block_reader.specs.declared.error.TextError.{TextError};
 ghost use Rattle.ax_block_reader.specs.declared.error.TextError.TheVariants as Fault;
 

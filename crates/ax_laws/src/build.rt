@@ -1,7 +1,8 @@
 //! The laws of `build`. Each function stands for what its contract says.
 ghost use Rattle.std.specs.Prelude.{◌≡◌, ℕ, ◌≤◌, List, Some};
 ghost use Rattle.std.specs.List.{AllByRecursion};
-ghost use Rattle.ax_block_reader.specs.BlockTexts.{IsBlockOf, canonical_length};
+ghost use Rattle.ax_block_reader.specs.BlockTexts.{canonical_length};
+ghost use Rattle.ax_text.specs.CatalogueBlocks.{IsBlockOf};
 ghost use Rattle.ax_build_work.specs.BuildCommand.{build_command, deepest};
 ghost use Rattle.ax_lines.specs.Commands.{gives, HasOneAnswer};
 ghost use Rattle.ax_format.specs.Blocks.{BlockTree};

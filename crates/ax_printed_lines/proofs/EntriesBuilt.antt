@@ -4,7 +4,7 @@ use Rattle.std.specs.Prelude.{◌==◌, MatchBool}
 use Rattle.std.proofs.lemmas.Bool.{eq-eqb, eqb-true, ne_eqb}
 use Rattle.std.proofs.lemmas.List.{drop_more, take_more_set, drop-set-lt, length-set, length-replicate}
 use Rattle.ax_printed_lines.specs.declared.laid.Laid.{Laid}
-use Rattle.ax_block_reader.proofs.Onto.{kind_more}
+use Rattle.ax_text.proofs.Onto.{kind_more}
 use Rattle.ax_fspec.proofs.FieldLaws.{least_field_of, none_further}
 use Rattle.ax_fspec.specs.Fields.{least_field}
 use Rattle.ax_fspec.specs.Marks.{no_marks}

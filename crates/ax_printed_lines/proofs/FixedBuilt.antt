@@ -5,8 +5,8 @@ use Rattle.std.proofs.lemmas.List.{drop_all}
 use Rattle.ax_bits.specs.Bits.{word}
 use Rattle.ax_printed_lines.specs.Laid.{Lays}
 use Rattle.ax_printed_lines.specs.declared.laid.Laid.{Laid}
-use Rattle.ax_block_reader.proofs.FixedWays.{element_tree, group_tree, named_tree, spare_tree}
-use Rattle.ax_block_reader.proofs.Onto.{member_more}
+use Rattle.ax_text.proofs.KindTrees.{element_tree, group_tree, named_tree, spare_tree}
+use Rattle.ax_text.proofs.Onto.{member_more}
 use Rattle.ax_format.specs.Canonical.{number_canon, fixed_canon, members_canon}
 use Rattle.ax_format.specs.InBounds.{IsWidth, FixedInBounds, MembersInBounds}
 use Rattle.ax_format.specs.Plain.{fixed_tree, member_tree, members_tree}

@@ -3,7 +3,7 @@ use Rattle.std.proofs.Common.{◌≡◌, ℕ, suc, ◌+◌, ◌^◌, ◌<◌, �
 use Rattle.ax_bits.specs.Bits.{word}
 use Rattle.ax_printed_lines.specs.Laid.{Lays, Leaves, Fills}
 use Rattle.ax_printed_lines.specs.declared.laid.Laid.{Laid}
-use Rattle.ax_block_reader.proofs.Onto.{kind_more}
+use Rattle.ax_text.proofs.Onto.{kind_more}
 use Rattle.ax_fspec.specs.Fields.{least_field}
 use Rattle.ax_format.specs.Canonical.{canon, fixed_canon, parts_canon, run_canon, each_canon, entries_canon}
 use Rattle.ax_format.specs.InBounds.{FixedInBounds, PartsInBounds, InBounds, SlotsInBounds}

@@ -5,7 +5,7 @@ use Rattle.std.proofs.lemmas.Bool.{eqb-true, and_parts}
 use Rattle.std.specs.List.{list_all}
 use Rattle.ax_bits.proofs.Pieces.{bits-injective}
 use Rattle.ax_printed_lines.specs.declared.laid.Laid.{Laid}
-use Rattle.ax_block_reader.proofs.Onto.{entries_more}
+use Rattle.ax_text.proofs.Onto.{entries_more}
 use Rattle.ax_format.specs.Blocks.{read_block}
 use Rattle.ax_format.specs.Bodies.{CanonBody}
 use Rattle.ax_format.specs.CanonicalOctets.{octets_of, framed}

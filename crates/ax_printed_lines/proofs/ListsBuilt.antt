@@ -4,7 +4,7 @@ use Rattle.std.proofs.lemmas.List.{length-map}
 use Rattle.ax_bits.specs.Bits.{word}
 use Rattle.ax_printed_lines.specs.Laid.{Lays}
 use Rattle.ax_printed_lines.specs.declared.laid.Laid.{Laid}
-use Rattle.ax_block_reader.proofs.Onto.{fixed_more, part_more}
+use Rattle.ax_text.proofs.Onto.{fixed_more, part_more}
 use Rattle.ax_format.specs.Canonical.{fixed_canon, members_canon, parts_canon, run_canon}
 use Rattle.ax_format.specs.InBounds.{MembersInBounds, PartsInBounds}
 use Rattle.ax_format.specs.Shape.{FixedShape, MembersShape, PartsShape, EachShape}

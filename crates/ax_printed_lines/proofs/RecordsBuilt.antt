@@ -3,7 +3,7 @@ use Rattle.std.proofs.Common.{◌≡◌, ℕ, ◌<◌, List, [], ◌∷◌, ◌+
 use Rattle.std.specs.List.{AllByRecursion}
 use Rattle.ax_printed_lines.specs.Laid.{Leaves, Fills}
 use Rattle.ax_printed_lines.specs.declared.laid.Laid.{Laid}
-use Rattle.ax_block_reader.proofs.Onto.{entries_more}
+use Rattle.ax_text.proofs.Onto.{entries_more}
 use Rattle.ax_fspec.specs.Fields.{least_field}
 use Rattle.ax_format.proofs.Bounds.{record_bounds}
 use Rattle.ax_format.specs.Bodies.{RecordShape, CanonRecord, CanonBody}

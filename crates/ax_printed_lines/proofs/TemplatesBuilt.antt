@@ -4,7 +4,7 @@ use Rattle.std.specs.Prelude.{decimal}
 use Rattle.std.proofs.lemmas.List.{take_all, length-take-le}
 use Rattle.ax_bits.proofs.Words.{length-word, number_below, word-AreBits, word-number}
 use Rattle.ax_bits.specs.Bits.{AreBits, number_of, word}
-use Rattle.ax_block_reader.proofs.Onto.{fixed_more, part_more}
+use Rattle.ax_text.proofs.Onto.{fixed_more, part_more}
 use Rattle.ax_format.proofs.Meets.{bits_of}
 use Rattle.ax_format.specs.Canonical.{fixed_canon, members_canon}
 use Rattle.ax_format.specs.Characters.{IsName}

@@ -3,7 +3,7 @@ use Rattle.std.specs.Prelude.{◌≡◌, ℕ, ◌≤◌, ◌<◌, Bool, true, fa
 use Rattle.std.specs.List.{AllByRecursion, list_all}
 use Rattle.hex.specs.Hex.{encode_lower, lower_digits}
 use Rattle.ax_bits.specs.Bits.{bits, AreOctets}
-use Rattle.ax_block_reader.specs.BlockTexts.{IsBlockOf}
+use Rattle.ax_text.specs.CatalogueBlocks.{IsBlockOf}
 use Rattle.ax_format.specs.Blocks.{BlockTree}
 use Rattle.ax_fspec.specs.Fields.{least_field}
 use Rattle.ax_format.specs.Bodies.{RecordShape, CanonBody}

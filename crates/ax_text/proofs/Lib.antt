@@ -20,3 +20,7 @@ pub mod ListedKinds
 pub mod ListedRecords
 pub mod ShowWays
 pub mod Listables
+pub mod CategoryTexts
+pub mod KindTrees
+pub mod Onto
+pub mod SlotTrees

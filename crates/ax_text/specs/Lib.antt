@@ -9,3 +9,4 @@ pub mod Remarks
 pub mod FractionEnds
 pub mod ShowText
 pub mod Listable
+pub mod CatalogueBlocks

@@ -11,8 +11,8 @@ use ax_check::Accepted;
 use ax_command::{JobStop, Outcome};
 use ax_convert_work::ConvertBlocks;
 use ax_edition::Relation;
-use ax_migrate_views::Migrator;
 use ax_endpoints::{Sink, Source};
+use ax_migrate_views::Migrator;
 use ax_tables::compile;
 use std::alloc::Global;
 

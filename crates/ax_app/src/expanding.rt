@@ -10,9 +10,9 @@ use crate::channels::Channels;
 use crate::each_block::answer_blocks;
 use ax_check::Accepted;
 use ax_command::{JobStop, Outcome, Refusal};
+use ax_endpoints::{Sink, Source};
 use ax_expand::AcceptedExpansion;
 use ax_expand_work::{ExpandViews, re_slot};
-use ax_endpoints::{Sink, Source};
 use ax_tables::compile;
 use std::alloc::Global;
 

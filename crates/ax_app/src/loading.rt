@@ -6,9 +6,9 @@ ghost use Rattle.ax_app.specs.Loaded.{given_of, IsLoadedFor};
 ghost use Rattle.ax_endpoints.specs.Changes.{library_counts};
 
 use ax_check::{Accepted, Catalogue};
+use ax_endpoints::Library;
 use ax_expand::AcceptedExpansion;
 use ax_load::{LoadStop, load_catalogue, load_two, load_with_expansion};
-use ax_endpoints::Library;
 use ax_words::{Line, WordText};
 use std::alloc::Global;
 use std::slice;

@@ -8,8 +8,8 @@ ghost use Rattle.ax_format.specs.Sizes.{longest_block};
 ghost use Rattle.ax_endpoints.specs.Told.{Rose};
 
 use crate::next_error::NextError;
-use ax_format::RawBlock;
 use ax_endpoints::{Source, fill};
+use ax_format::RawBlock;
 
 /// The octets of CAT and LEN.
 const HEADER: usize = 3;

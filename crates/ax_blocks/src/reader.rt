@@ -4,9 +4,9 @@ ghost use Rattle.ax_format.specs.Sizes.{longest_block};
 
 use crate::framing::{next_length, raw_block};
 use crate::next_error::NextError;
+use ax_endpoints::Source;
 use ax_format::RawBlock;
 use ax_lists::zeros;
-use ax_endpoints::Source;
 use std::alloc::{AllocError, Global};
 use std::marker::Model;
 

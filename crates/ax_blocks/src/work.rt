@@ -7,8 +7,8 @@ ghost use Rattle.ax_endpoints.specs.Changes.{sink_change};
 ghost use Rattle.ax_blocks.specs.Commands.{BlockCommand};
 ghost use Rattle.ax_blocks.specs.BlockTaking.{Takes, WritesOctets};
 
-use ax_format::{BodyFault, RawBlock};
 use ax_endpoints::{Sink, write_all_of};
+use ax_format::{BodyFault, RawBlock};
 
 /// Why a block isn't written whole.
 #[derive(Clone, Copy)]

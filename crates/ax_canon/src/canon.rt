@@ -8,8 +8,8 @@ ghost use Rattle.ax_codec.specs.Standing.{StandForEach};
 use crate::output::{blank_output, lay_canonical, lay_opaque};
 use ax_blocks::{BlockWork, WorkStop, write_piece};
 use ax_check::Catalogue;
-use ax_format::RawBlock;
 use ax_endpoints::Sink;
+use ax_format::RawBlock;
 use ax_tables::Codecs;
 use std::alloc::{AllocError, Global};
 

@@ -6,11 +6,11 @@ ghost use Rattle.ax_command.specs.Lines.{kind_name, flaw_line, flaw_lines, fault
 
 use crate::outcome::Outcome;
 use ax_blocks::write_fault_line;
-use ax_lines::TextFault;
+use ax_endpoints::{Sink, SinkFailed, write_text};
 use ax_expressions::FilterFault;
 use ax_format::{Flaw, FlawKind, Flaws, Text, category_digits};
+use ax_lines::TextFault;
 use ax_load::SpecFault;
-use ax_endpoints::{Sink, SinkFailed, write_text};
 use ax_report::{write_numbered, write_numbered_text, write_three, write_two, write_two_numbers};
 
 fn kind_text(kind: FlawKind) -> &'static [u8]

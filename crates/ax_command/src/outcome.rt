@@ -5,9 +5,8 @@ ghost use Rattle.ax_command.specs.Status.{status_of};
 ghost use Rattle.ax_command.specs.declared.outcome.JobStop.TheVariants as JobStopOf;
 
 use ax_blocks::{InputFault, StreamEnd};
-use ax_lines::TextFault;
 use ax_expressions::FilterFault;
-use ax_lines::LinesEnd;
+use ax_lines::{LinesEnd, TextFault};
 use ax_load::{LoadStop, SpecFault};
 use std::alloc::AllocError;
 

@@ -10,10 +10,10 @@ use crate::records::gather_block;
 use ax_blocks::{BlockWork, WorkStop, write_piece};
 use ax_check::Accepted;
 use ax_codec::Codec;
+use ax_endpoints::{Sink, write_text};
 use ax_expand::AcceptedExpansion;
 use ax_format::RawBlock;
 use ax_octets::Octets;
-use ax_endpoints::{Sink, write_text};
 use ax_view::scan;
 use std::alloc::Global;
 

@@ -3,11 +3,9 @@ ghost use Rattle.std.specs.Prelude.{◌≡◌};
 ghost use Rattle.ax_filter.specs.Memos.{Recalls};
 ghost use Rattle.ax_expressions.specs.Plans.{asks, finds, level_says, plan_tree, says, wanted};
 
-use ax_expressions::compares_as;
 use crate::memo::{Answer, Asked, found_once};
 use crate::places::HasPlaces;
-use ax_expressions::{Found, Plan, Plans, Want};
-use ax_expressions::{has_slot, meets};
+use ax_expressions::{Found, Plan, Plans, Want, compares_as, has_slot, meets};
 
 /// Whether what was found holds.
 #[inline(always)]

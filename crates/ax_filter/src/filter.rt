@@ -7,10 +7,8 @@ ghost use Rattle.ax_expressions.specs.Meaning.{holds};
 ghost use Rattle.ax_expressions.specs.Tests.{test_tree, passes};
 ghost use Rattle.ax_expressions.specs.Tree.{expr_tree};
 
-use ax_expressions::Expr;
-use ax_expressions::{CategoryPlans, Questions};
-use ax_expressions::Test;
 use ax_check::Catalogue;
+use ax_expressions::{CategoryPlans, Expr, Questions, Test};
 
 /// An expression over a catalogue: it holds of a record of a category or doesn't.
 #[derive(Drop)]

@@ -8,16 +8,13 @@ ghost use Rattle.ax_expressions.specs.Plans.{finds, plan_tree, says};
 ghost use Rattle.ax_expressions.specs.declared.plan.Found.{Found};
 ghost use Rattle.ax_view.specs.Shown.{record_entries};
 
-use ax_expressions::FEW;
 use crate::deciding::says;
 use crate::filter::Filter;
-use ax_expressions::{asked_by, said_of_none};
 use crate::marks::marked_slots;
 use crate::memo::{Answer, Asked, Memo};
 use crate::passing::passes;
-use ax_expressions::{CategoryPlan, Plan};
-use ax_expressions::meets;
 use ax_codec::Codec;
+use ax_expressions::{CategoryPlan, FEW, Plan, asked_by, meets, said_of_none};
 use ax_format::{Record, Spec};
 use ax_view::{Notes, PlacedSlots, Places, RecordView, place_record};
 use std::alloc::{AllocError, Global};

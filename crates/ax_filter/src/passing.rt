@@ -4,10 +4,8 @@ ghost use Rattle.ax_format.specs.At.{is_present};
 ghost use Rattle.ax_expressions.specs.Meaning.{compares, some_passes};
 ghost use Rattle.ax_expressions.specs.Tests.{test_tree, tests_of, number_for, passes, all_pass, any_passes};
 
-use ax_expressions::compares_as;
-use ax_expressions::Op;
 use crate::places::HasPlaces;
-use ax_expressions::{Element, Test, Tests};
+use ax_expressions::{Element, Op, Test, Tests, compares_as};
 use ax_format::Place;
 
 #[inline]

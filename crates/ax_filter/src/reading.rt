@@ -9,18 +9,12 @@ ghost use Rattle.ax_expressions.specs.Plans.{PlanEach};
 ghost use Rattle.ax_filter.specs.OfCode.{expression, catalogue_of};
 ghost use Rattle.ax_expressions.specs.FilterTokens.{IsFilterOf};
 
-use ax_expressions::{FEW, asking_in_all, count_tests};
-use ax_expressions::FilterError;
-use ax_expressions::Expr;
-use ax_expressions::{PathFault, first_fault};
 use crate::filter::Filter;
-use ax_expressions::CategoryPlans;
-use ax_expressions::plan_categories;
-use ax_expressions::Numbering;
-use ax_expressions::resolve;
-use ax_expressions::{SyntaxError, read_expr};
-use ax_expressions::Test;
 use ax_check::Catalogue;
+use ax_expressions::{
+    CategoryPlans, Expr, FEW, FilterError, Numbering, PathFault, SyntaxError, Test, asking_in_all,
+    count_tests, first_fault, plan_categories, read_expr, resolve,
+};
 use ax_tokens::Tokens;
 use std::alloc::{AllocError, Global};
 

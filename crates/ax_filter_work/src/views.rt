@@ -8,9 +8,9 @@ ghost use Rattle.ax_codec.specs.Standing.{StandForEach};
 use crate::output::lay_matching;
 use ax_blocks::{BlockWork, WorkStop, write_piece};
 use ax_canon::blank_output;
+use ax_endpoints::Sink;
 use ax_filter::{Filter, Memo};
 use ax_format::RawBlock;
-use ax_endpoints::Sink;
 use ax_tables::Codecs;
 use std::alloc::{AllocError, Global};
 

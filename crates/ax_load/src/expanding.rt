@@ -12,8 +12,8 @@ use crate::fault::LoadStop;
 use crate::files::FileStop;
 use crate::loading::{load_file, load_octets};
 use ax_check::Accepted;
-use ax_expand::AcceptedExpansion;
 use ax_endpoints::Library;
+use ax_expand::AcceptedExpansion;
 use std::alloc::Global;
 
 /// The expansion of the file of that name, or how the run ends. The file has that number in the order of the words. It is

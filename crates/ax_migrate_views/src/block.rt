@@ -14,8 +14,8 @@ use crate::migrator::Migrator;
 use crate::pieces::{KnownRange, first_too_long, write_blocks};
 use crate::ranges::Fit;
 use ax_blocks::{WorkStop, write_piece};
-use ax_format::RawBlock;
 use ax_endpoints::{Sink, SinkFailed, write_text};
+use ax_format::RawBlock;
 use ax_view::scan;
 
 /// The most octets of a data block, and of lines that are kept.

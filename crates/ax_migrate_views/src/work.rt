@@ -7,9 +7,9 @@ use crate::block::migrate_block;
 use crate::migrator::Migrator;
 use crate::output::{ROOM, lay_opaque};
 use ax_blocks::{BlockWork, WorkStop, write_piece};
+use ax_endpoints::Sink;
 use ax_format::RawBlock;
 use ax_lists::zeros;
-use ax_endpoints::Sink;
 use std::alloc::{AllocError, Global};
 
 /// `migrate` over views, by a migrator between the two editions. What is written of a block stands in one output, and the

@@ -10,9 +10,9 @@ ghost use Rattle.ax_view.specs.Placing.{IsPlaced};
 ghost use Rattle.ax_view.specs.Shown.{record_entries};
 
 use ax_codec::Codec;
+use ax_endpoints::{Sink, SinkFailed, write_text};
 use ax_migration::{Loss, loss_line};
 use ax_moves::{LONGEST, LostKey, tell_keys};
-use ax_endpoints::{Sink, SinkFailed, write_text};
 use ax_view::{Notes, PlacedSlots, Places, RecordView, place_record};
 
 /// Writes the lines of the keys that the record of that number loses: as one piece where they can be kept, and else those of

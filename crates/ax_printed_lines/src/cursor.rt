@@ -12,8 +12,8 @@ use crate::gaps::{after_gap, after_separators, after_spaced, after_word, split_w
 use crate::names::{FrontWord, after_short_name, after_spaced_name, are_same, begins_with};
 use crate::numbers::{number_in_front, spaced_number};
 use crate::runs::after_template;
-use ax_text::{category_of, unquoted};
 use ax_format::Name;
+use ax_text::{category_of, unquoted};
 use ax_text_views::Steps;
 use std::marker::Model;
 

@@ -3,8 +3,8 @@ ghost use Rattle.std.specs.Prelude.{◌≡◌};
 ghost use Rattle.ax_endpoints.specs.Changes.{Wrote, sink_change};
 ghost use Rattle.ax_rescale.specs.Missed.{missed_word, missed_line};
 
-use ax_format::Text;
 use ax_endpoints::{Sink, SinkFailed};
+use ax_format::Text;
 use ax_report::write_entry;
 
 /// An entry that the converted record doesn't have: the number of its record in the block, from 0, and the text of its path.

@@ -8,8 +8,8 @@ use crate::line::Line;
 use crate::tables::{Tables, tables_of};
 use ax_blocks::{BlockWork, WorkStop, write_piece};
 use ax_check::Catalogue;
-use ax_format::RawBlock;
 use ax_endpoints::Sink;
+use ax_format::RawBlock;
 use ax_values::DecodeError;
 use std::alloc::{AllocError, Global};
 

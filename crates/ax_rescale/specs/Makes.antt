@@ -7,4 +7,4 @@ IfMade tree Rule result = IfOk result (λ made. IfSome made (λ one. Rule (tree 
 
 -- where nothing was made, there is nothing that the rule asks for
 abbrev pub IfNotMade : {A B E : Type 0} → (B → Type 0) → Result (Option A) E → Type 0
-IfNotMade Rule result = IfOk result (λ made. IfNone made ((one : B) → Rule one → ⊥))
+IfNotMade {B = B} Rule result = IfOk result (λ made. IfNone made ((one : B) → Rule one → ⊥))

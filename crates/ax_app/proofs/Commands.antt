@@ -51,16 +51,19 @@ of_drive command other limit x end outcome runs is same most = record {
   first = was_idle x end outcome is;
 }
 
-pub of_salvage : (catalogue : List SpecTree) (x : Changes) (end : SalvageEnd) (outcome : Outcome) → SalvageRuns catalogue longest_input x.source x.out x.report end → outcome ≡ outcome_of_salvage end → RunsPrepared (salvages catalogue) x (Ok outcome)
-of_salvage catalogue x end outcome runs is = record {
-  does = record {
-    runs = record { end = end; runs = runs; is = is };
-    memory = tt;
-    idle = tt;
-    later = record { source = runs.source_later; out = runs.out_later; report = runs.report_later };
-  };
-  first = salvage_was_idle x end outcome is;
-}
+pub of_salvage : (catalogue other : List SpecTree) (limit : ℕ) (x : Changes) (end : SalvageEnd) (outcome : Outcome) → SalvageRuns other limit x.source x.out x.report end → outcome ≡ outcome_of_salvage end → other ≡ catalogue → limit ≡ longest_input
+    → RunsPrepared (salvages catalogue) x (Ok outcome)
+of_salvage catalogue other limit x end outcome runs is same most =
+    let ran : SalvageRuns catalogue longest_input x.source x.out x.report end = subst (λ n. SalvageRuns catalogue n x.source x.out x.report end) most (subst (λ c. SalvageRuns c limit x.source x.out x.report end) same runs) in
+    record {
+      does = record {
+        runs = record { end = end; runs = ran; is = is };
+        memory = tt;
+        idle = tt;
+        later = record { source = ran.source_later; out = ran.out_later; report = ran.report_later };
+      };
+      first = salvage_was_idle x end outcome is;
+    }
 
 -- ---- want of memory, or a refusal
 

@@ -22,7 +22,7 @@ use Rattle.ax_blocks.specs.Ending.{longest_input}
 use Rattle.ax_blocks.specs.Streams.{IsCaused}
 use Rattle.ax_blocks.specs.declared.end.StreamEnd.{StreamEnd}
 use Rattle.ax_blocks.specs.declared.end.StreamEnd.TheVariants as EndOf
-use Rattle.ax_app.specs.Jobs.{Job, writes, each_block, builds, salvages, refuses, TextEnds, written, cut, no_memory, JobRuns}
+use Rattle.ax_app.specs.Jobs.{CommandJob, writes, each_block, builds, salvages, refuses, TextEnds, written, cut, no_memory, JobRuns}
 use Rattle.ax_app.specs.Running.{Runs, at_words, no_words, at_files, before_input, in_job, Causes}
 use Rattle.ax_app.specs.Salvages.{outcome_of_salvage}
 
@@ -92,7 +92,7 @@ module _ (i : SourceChange) (o r : SinkChange) where
   caused_by_salvage SalvageEndOf.WriteFault h = h
   caused_by_salvage SalvageEndOf.ReportFault h = h
 
-  caused_in_job : (job : Job) (outcome : Outcome) → JobRuns job i o r outcome → IsCausedBy i o r outcome
+  caused_in_job : (job : CommandJob) (outcome : Outcome) → JobRuns job i o r outcome → IsCausedBy i o r outcome
   caused_in_job (writes count text) outcome h = caused_by_text count text outcome h.ends
   caused_in_job (each_block c) outcome h = subst (IsCausedBy i o r) (sym h.is) (caused_by_blocks h.end h.runs.caused)
   caused_in_job (builds catalogue) outcome h = subst (IsCausedBy i o r) (sym h.is) (caused_by_lines h.end h.runs.caused)

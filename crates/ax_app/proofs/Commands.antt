@@ -25,7 +25,7 @@ use Rattle.ax_app.specs.Channels.{Changes}
 use Rattle.ax_app.specs.Commands.{RunsAs, RunsPrepared, RunsLine}
 use Rattle.ax_app.specs.Ends.{as_stream}
 use Rattle.ax_app.specs.Given.{Given, only}
-use Rattle.ax_app.specs.Jobs.{Job, writes, each_block, builds, salvages, check_text, IsJob, IsStopped, JobRuns, RunsJob, TextEnds, EndsCheckOver, EndsTrialOver, IsReadyToCheck, IsReadyToTry}
+use Rattle.ax_app.specs.Jobs.{CommandJob, writes, each_block, builds, salvages, check_text, IsJob, IsStopped, JobRuns, RunsJob, TextEnds, EndsCheckOver, EndsTrialOver, IsReadyToCheck, IsReadyToTry}
 use Rattle.ax_app.specs.Running.{NoFaultFell, TakesMemory, WasIdle, WantsFirst}
 use Rattle.ax_app.specs.Salvages.{outcome_of_salvage}
 use Rattle.ax_app.specs.Working.{Drives}
@@ -70,10 +70,10 @@ of_salvage catalogue other limit x end outcome runs is same most =
 fell_idle : (x : Changes) → IsIdle x.source x.out x.report → NoFaultFell x
 fell_idle x idle = record { source = omega (arith, idle.source_quiet); out = omega (arith, idle.out_quiet); report = omega (arith, idle.report_quiet) }
 
-pub of_memory : (job : Job) (x : Changes) (stop : JobStop) → stop ≡ JobStopOf.OutOfMemory → IsIdle x.source x.out x.report → RunsAs job x (Err stop)
+pub of_memory : (job : CommandJob) (x : Changes) (stop : JobStop) → stop ≡ JobStopOf.OutOfMemory → IsIdle x.source x.out x.report → RunsAs job x (Err stop)
 of_memory job x stop is idle = record { runs = tt; memory = is; idle = idle; later = fell_idle x idle }
 
-pub of_memory_first : (job : Job) (x : Changes) (stop : JobStop) → stop ≡ JobStopOf.OutOfMemory → IsIdle x.source x.out x.report → RunsPrepared job x (Err stop)
+pub of_memory_first : (job : CommandJob) (x : Changes) (stop : JobStop) → stop ≡ JobStopOf.OutOfMemory → IsIdle x.source x.out x.report → RunsPrepared job x (Err stop)
 of_memory_first job x stop is idle = record { does = of_memory job x stop is idle; first = tt }
 
 pub stopped_line : (line : Line) (given : Given) (x : Changes) (stop : JobStop) → IsStopped line given stop → IsIdle x.source x.out x.report → RunsLine line given x (Err stop)
@@ -81,7 +81,7 @@ stopped_line line given x stop stopped idle = record { runs = tt; stopped = stop
 
 -- ---- the line of a job
 
-module _ (line : Line) (given : Given) (job : Job) (x : Changes) (is : IsJob line given job) where
+module _ (line : Line) (given : Given) (job : CommandJob) (x : Changes) (is : IsJob line given job) where
   job_run : (result : Result Outcome JobStop) → IfOk result (JobRuns job x.source x.out x.report) → IfOk result (RunsJob line given x.source x.out x.report)
   job_run (Ok outcome) runs = record { job = job; is = is; runs = runs }
   job_run (Err stop) runs = tt

@@ -15,7 +15,7 @@ use Rattle.ax_app.proofs.Commands.{prepared_line, takes_line}
 use Rattle.ax_app.specs.Channels.{Changes}
 use Rattle.ax_app.specs.Commands.{RunsAs, RunsPrepared, RunsLine}
 use Rattle.ax_app.specs.Given.{only, TakesEditions}
-use Rattle.ax_app.specs.Jobs.{Job, each_block, refuses, IsJob, OverEditions, IsEditionsJob, answers_each, other_category}
+use Rattle.ax_app.specs.Jobs.{CommandJob, each_block, refuses, IsJob, OverEditions, IsEditionsJob, answers_each, other_category}
 
 -- ---- the lines
 
@@ -48,7 +48,7 @@ of_editions Version h = never Version h.0
 -- ---- their jobs
 
 -- a line whose jobs are those of this command
-module _ (line : Line) (command : SpecTree → SpecTree → BlockCommand) (jobs : (specs : List SpecTree) (job : Job) → OverEditions command specs job → IsJob line (only specs) job) (old new : Spec) where
+module _ (line : Line) (command : SpecTree → SpecTree → BlockCommand) (jobs : (specs : List SpecTree) (job : CommandJob) → OverEditions command specs job → IsJob line (only specs) job) (old new : Spec) where
   editions_job : old.category ≡ new.category → IsJob line (only (spec_tree old ∷ spec_tree new ∷ [])) (each_block (command (spec_tree old) (spec_tree new)))
   editions_job same = jobs _ _ (record { old = spec_tree old; new = spec_tree new; two = refl; is = answers_each same refl })
 
@@ -75,13 +75,13 @@ others_refused line old new one other takes p q differ = refused_of line old new
 
 -- ---- one job
 
-editions_once : (command : SpecTree → SpecTree → BlockCommand) (old new : SpecTree) (job other : Job) → IsEditionsJob command old new job → IsEditionsJob command old new other → job ≡ other
+editions_once : (command : SpecTree → SpecTree → BlockCommand) (old new : SpecTree) (job other : CommandJob) → IsEditionsJob command old new job → IsEditionsJob command old new other → job ≡ other
 editions_once command old new job other (answers_each same is) (answers_each also to) = is ∙ sym to
 editions_once command old new job other (answers_each same is) (other_category differ to) = absurd (differ same)
 editions_once command old new job other (other_category differ is) (answers_each same to) = absurd (differ same)
 editions_once command old new job other (other_category differ is) (other_category also to) = is ∙ sym to
 
-pub editions_job_once : (command : SpecTree → SpecTree → BlockCommand) (specs : List SpecTree) (job other : Job) → OverEditions command specs job → OverEditions command specs other → job ≡ other
+pub editions_job_once : (command : SpecTree → SpecTree → BlockCommand) (specs : List SpecTree) (job other : CommandJob) → OverEditions command specs job → OverEditions command specs other → job ≡ other
 editions_job_once command specs job other h k =
     let e : h.old ∷ h.new ∷ [] ≡ k.old ∷ k.new ∷ [] = sym h.two ∙ k.two in
     let old : k.old ≡ h.old = cc in

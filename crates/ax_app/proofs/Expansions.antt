@@ -15,7 +15,7 @@ use Rattle.ax_app.proofs.Commands.{takes_line}
 use Rattle.ax_app.specs.Channels.{Changes}
 use Rattle.ax_app.specs.Commands.{RunsAs, RunsLine, RunsExpand}
 use Rattle.ax_app.specs.Given.{Given, expansion_of}
-use Rattle.ax_app.specs.Jobs.{Job, each_block, refuses, IsJob, ExpandsBy, IsExpandJob, expands, unused, of_another}
+use Rattle.ax_app.specs.Jobs.{CommandJob, each_block, refuses, IsJob, ExpandsBy, IsExpandJob, expands, unused, of_another}
 use Rattle.ax_app.specs.Loaded.{given_of, with_expansion, IsLoadedFor}
 use Rattle.ax_app.specs.declared.loading.Loaded.{Loaded}
 use Rattle.ax_app.specs.declared.loading.Loaded.TheVariants as LoadedOf
@@ -63,7 +63,7 @@ expand_unused names spec x same none = record { spec = spec_tree spec; x = expan
 
 -- ---- one job
 
-expand_once : (spec : SpecTree) (x : ExpansionTree) (job other : Job) → IsExpandJob spec x job → IsExpandJob spec x other → job ≡ other
+expand_once : (spec : SpecTree) (x : ExpansionTree) (job other : CommandJob) → IsExpandJob spec x job → IsExpandJob spec x other → job ≡ other
 expand_once spec x job other (expands same frn stands is) (expands also next here to) =
     let e : Some frn ≡ Some next = sym stands ∙ here in let f : frn ≡ next = cc in is ∙ ap (λ n. each_block (expand_command spec n x)) f ∙ sym to
 expand_once spec x job other (expands same frn stands is) (unused also none to) = let e : Some frn ≡ None = sym stands ∙ none in absurd (cc)
@@ -75,7 +75,7 @@ expand_once spec x job other (of_another differ is) (expands same frn stands to)
 expand_once spec x job other (of_another differ is) (unused same none to) = absurd (differ same)
 expand_once spec x job other (of_another differ is) (of_another also to) = is ∙ sym to
 
-pub expand_job_once : (given : Given) (job other : Job) → ExpandsBy given job → ExpandsBy given other → job ≡ other
+pub expand_job_once : (given : Given) (job other : CommandJob) → ExpandsBy given job → ExpandsBy given other → job ≡ other
 expand_job_once given job other h k =
     let e : h.spec ∷ [] ≡ k.spec ∷ [] = sym h.one ∙ k.one in
     let s : k.spec ≡ h.spec = cc in

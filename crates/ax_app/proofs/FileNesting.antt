@@ -26,11 +26,11 @@ use Rattle.ax_format.specs.declared.spec.UapSlot.TheVariants as Uap
 use Rattle.ax_tokens.proofs.Levels.{within_keeps}
 use Rattle.ax_tokens.specs.Depth.{IsWithin}
 use Rattle.ax_tokens.specs.Lexing.{AreTokensOf}
-use Rattle.ax_text.proofs.Nesting.{line_tokens, tokens_within}
-use Rattle.ax_text.proofs.WordTokens.{decimal_word, name_word, category_word}
-use Rattle.ax_text.specs.BlockText.{BlockLine}
-use Rattle.ax_text.specs.Names.{FixedNamed, MembersNamed, KindNamed, SlotsNamed, ItemNamed, IsNamed}
-use Rattle.ax_text.specs.Tokens.{HoldsBlock, BlockTokens, fixed_nesting, members_nesting, parts_nesting, kind_nesting, slots_nesting, block_nesting}
+use Rattle.ax_text_form.proofs.Nesting.{line_tokens, tokens_within}
+use Rattle.ax_text_form.proofs.WordTokens.{decimal_word, name_word, category_word}
+use Rattle.ax_text_form.specs.BlockText.{BlockLine}
+use Rattle.ax_text_form.specs.Names.{FixedNamed, MembersNamed, KindNamed, SlotsNamed, ItemNamed, IsNamed}
+use Rattle.ax_text_form.specs.Tokens.{HoldsBlock, BlockTokens, fixed_nesting, members_nesting, parts_nesting, kind_nesting, slots_nesting, block_nesting}
 use Rattle.ax_app.proofs.Passing.{Levels, levels, IsFlat, word_flat, Passes, none_passes, less_passes, flat_then, both_pass, flat_both, block_passes}
 
 -- ---- the texts of a list

@@ -2,7 +2,7 @@
 use Rattle.std.proofs.Common.{◌≡◌, ℕ, ◌+◌, ◌≤◌, Bool, true, false, IsTrue, List, [], ◌∷◌, Option, Some, None, Result, Err, refl, sym, ◌∙◌, ap, subst}
 use Rattle.ax_app.specs.Counting.{CountsAt, LoadsAll, LoadsThrough, NoneCounted, CountsOnly}
 use Rattle.ax_app.specs.Given.{Given, only, LineGives, LineEnds, in_specs, in_expansion, GivesExpansion, files_of, takes_distinct, expansion_of, and_last, all_files_of}
-use Rattle.ax_app.specs.Jobs.{Job, writes, each_block, builds, salvages, refuses, JobRuns, TextEnds, TextRuns, written, cut, no_memory}
+use Rattle.ax_app.specs.Jobs.{CommandJob, writes, each_block, builds, salvages, refuses, JobRuns, TextEnds, TextRuns, written, cut, no_memory}
 use Rattle.ax_app.specs.Running.{Runs, at_words, no_words, at_files, before_input, in_job}
 use Rattle.ax_app.specs.Salvages.{outcome_of_salvage}
 use Rattle.ax_check.specs.declared.accepted.Accepted.{Accepted}
@@ -185,7 +185,7 @@ module _ (c : LibraryCounts) (i : SourceChange) (o r : SinkChange) where
   of_salvage SalvageEndOf.WriteFault library h = (library, h.0, h.1, h.2)
   of_salvage SalvageEndOf.ReportFault library h = (library, h.0, h.1, h.2)
 
-  in_a_job : (job : Job) (outcome : Outcome) → c.faults' ≡ c.faults → JobRuns job i o r outcome → CountsOnly c i o r outcome
+  in_a_job : (job : CommandJob) (outcome : Outcome) → c.faults' ≡ c.faults → JobRuns job i o r outcome → CountsOnly c i o r outcome
   in_a_job (writes count text) outcome library h = of_text count text outcome library h.source_quiet h.report_quiet h.ends
   in_a_job (each_block k) outcome library h = subst (CountsOnly c i o r) (sym h.is) (of_blocks h.end library h.runs.counts)
   in_a_job (builds catalogue) outcome library h = subst (CountsOnly c i o r) (sym h.is) (of_lines h.end library h.report_quiet h.runs.counts)

@@ -13,7 +13,7 @@ use Rattle.ax_migration.specs.Commands.{migrate_command}
 use Rattle.ax_format.specs.Flaws.{NoFlaw}
 use Rattle.ax_format.specs.Specification.{SpecTree}
 use Rattle.ax_endpoints.specs.Files.{File}
-use Rattle.ax_text.specs.Names.{IsNamed}
+use Rattle.ax_text_form.specs.Names.{IsNamed}
 use Rattle.ax_app.proofs.FileNesting.{spec_named}
 use Rattle.ax_blocks.specs.Commands.{BlockCommand}
 use Rattle.ax_trial.proofs.Once.{trial_once}
@@ -26,28 +26,28 @@ use Rattle.ax_app.proofs.Editions.{editions_job_once}
 use Rattle.ax_app.proofs.Expansions.{expand_job_once}
 use Rattle.ax_app.proofs.GivenOnce.{line_gives_once}
 use Rattle.ax_app.specs.Given.{Given, LineGives, files_of}
-use Rattle.ax_app.specs.Jobs.{Job, writes, each_block, builds, salvages, refuses, IsJob, IsCheckJob, IsTrialJob, IsFilterJob, filters, refused, IsEditionsJob, answers_each, other_category, IsExpandJob, expands, unused, of_another, IsReady, check_text}
+use Rattle.ax_app.specs.Jobs.{CommandJob, writes, each_block, builds, salvages, refuses, IsJob, IsCheckJob, IsTrialJob, IsFilterJob, filters, refused, IsEditionsJob, answers_each, other_category, IsExpandJob, expands, unused, of_another, IsReady, check_text}
 use Rattle.ax_app.specs.Running.{Does}
 
 -- ---- one job
 
-filter_job_once : (expression : List ℕ) (specs : List SpecTree) (job other : Job) → IsFilterJob expression specs job → IsFilterJob expression specs other → job ≡ other
+filter_job_once : (expression : List ℕ) (specs : List SpecTree) (job other : CommandJob) → IsFilterJob expression specs job → IsFilterJob expression specs other → job ≡ other
 filter_job_once expression specs job other (filters e h is) (filters f k to) = is ∙ ap (λ x. each_block (filter_command x specs)) (filter_once specs expression e f h k) ∙ sym to
 filter_job_once expression specs job other (filters e h is) (refused fault k to) = absurd (filter_not_refused specs expression e fault h k)
 filter_job_once expression specs job other (refused fault h is) (filters f k to) = absurd (filter_not_refused specs expression f fault k h)
 filter_job_once expression specs job other (refused fault h is) (refused next k to) = is ∙ ap (λ x. refuses (FilterRefused x)) (refused_once specs expression fault next h k) ∙ sym to
 
-check_once : (specs : List SpecTree) (job other : Job) → IsCheckJob specs job → IsCheckJob specs other → job ≡ other
+check_once : (specs : List SpecTree) (job other : CommandJob) → IsCheckJob specs job → IsCheckJob specs other → job ≡ other
 check_once specs job other h k = let e : h.spec ∷ [] ≡ k.spec ∷ [] = sym h.one ∙ k.one in let s : h.spec ≡ k.spec = cc in h.is ∙ ap (λ x. writes 0 (check_text x)) s ∙ sym k.is
 
-trial_job_once : (seed count : ℕ) (specs : List SpecTree) (job other : Job) → IsTrialJob seed count specs job → IsTrialJob seed count specs other → job ≡ other
+trial_job_once : (seed count : ℕ) (specs : List SpecTree) (job other : CommandJob) → IsTrialJob seed count specs job → IsTrialJob seed count specs other → job ≡ other
 trial_job_once seed count specs job other h k =
     let e : h.spec ∷ [] ≡ k.spec ∷ [] = sym h.one ∙ k.one in
     let s : k.spec ≡ h.spec = cc in
     h.is ∙ ap (writes count) (trial_once h.spec seed count h.line k.line h.trial (subst (λ x. IsTrial x seed count k.line) s k.trial)) ∙ sym k.is
 
 -- one row for each command
-pub job_once : (line : Line) (given : Given) (job other : Job) → IsJob line given job → IsJob line given other → job ≡ other
+pub job_once : (line : Line) (given : Given) (job other : CommandJob) → IsJob line given job → IsJob line given other → job ≡ other
 job_once (Check file) given job other h k = check_once given.specs job other h k
 job_once (Canon files) given job other h k = h ∙ sym k
 job_once (Show files) given job other h k = h ∙ sym k
@@ -62,7 +62,7 @@ job_once (Convert old new) given job other h k = editions_job_once convert_comma
 job_once Help given job other h k = h ∙ sym k
 job_once Version given job other h k = h ∙ sym k
 
-pub does_once : (words : List (List ℕ)) (files : List File) (job other : Job) → Does words (Some files) job → Does words (Some files) other → job ≡ other
+pub does_once : (words : List (List ℕ)) (files : List File) (job other : CommandJob) → Does words (Some files) job → Does words (Some files) other → job ≡ other
 does_once words files job other h k =
     let same : h.what ≡ k.what = shape_once words h.what k.what h.shape k.shape in
     let given : k.given ≡ h.given = line_gives_once h.what files k.given h.given (subst (λ w. LineGives w (Some files) k.given) (sym same) k.give) h.give in
@@ -77,28 +77,28 @@ good_specs files (name ∷ names) [] gives = absurd gives
 good_specs files (name ∷ names) (spec ∷ specs) gives = ((record { none = gives.0.accepted.sound }, spec_named spec gives.0.accepted.spelled.in_range), good_specs files names specs gives.1)
 
 -- they have no flaw, and their names are names
-abbrev pub IsGood : Job → Type 0
+abbrev pub IsGood : CommandJob → Type 0
 IsGood (writes count text) = Unit {0}
 IsGood (each_block c) = Unit {0}
 IsGood (builds catalogue) = AllByRecursion (λ spec. NoFlaw spec × IsNamed spec) catalogue
 IsGood (salvages catalogue) = AllByRecursion (λ spec. NoFlaw spec × IsNamed spec) catalogue
 IsGood (refuses refusal) = Unit {0}
 
-good_filter : (expression : List ℕ) (specs : List SpecTree) (job : Job) → IsFilterJob expression specs job → IsGood job
+good_filter : (expression : List ℕ) (specs : List SpecTree) (job : CommandJob) → IsFilterJob expression specs job → IsGood job
 good_filter expression specs job (filters e h is) = subst IsGood (sym is) tt
 good_filter expression specs job (refused fault h is) = subst IsGood (sym is) tt
 
-good_editions : (command : SpecTree → SpecTree → BlockCommand) (old new : SpecTree) (job : Job) → IsEditionsJob command old new job → IsGood job
+good_editions : (command : SpecTree → SpecTree → BlockCommand) (old new : SpecTree) (job : CommandJob) → IsEditionsJob command old new job → IsGood job
 good_editions command old new job (answers_each same is) = subst IsGood (sym is) tt
 good_editions command old new job (other_category differ is) = subst IsGood (sym is) tt
 
-good_expand : (spec : SpecTree) (x : ExpansionTree) (job : Job) → IsExpandJob spec x job → IsGood job
+good_expand : (spec : SpecTree) (x : ExpansionTree) (job : CommandJob) → IsExpandJob spec x job → IsGood job
 good_expand spec x job (expands same frn stands is) = subst IsGood (sym is) tt
 good_expand spec x job (unused same none is) = subst IsGood (sym is) tt
 good_expand spec x job (of_another differ is) = subst IsGood (sym is) tt
 
 -- one row for each command
-good_of : (line : Line) (given : Given) (job : Job) → AllByRecursion (λ spec. NoFlaw spec × IsNamed spec) given.specs → IsJob line given job → IsGood job
+good_of : (line : Line) (given : Given) (job : CommandJob) → AllByRecursion (λ spec. NoFlaw spec × IsNamed spec) given.specs → IsJob line given job → IsGood job
 good_of (Check file) given job good h = subst IsGood (sym h.is) tt
 good_of (Canon files) given job good h = subst IsGood (sym h) tt
 good_of (Show files) given job good h = subst IsGood (sym h) tt
@@ -113,7 +113,7 @@ good_of (Convert old new) given job good h = good_editions convert_command h.old
 good_of Help given job good h = subst IsGood (sym h) tt
 good_of Version given job good h = subst IsGood (sym h) tt
 
-pub good_job : (words : List (List ℕ)) (files : Option (List File)) (job : Job) → Does words files job → IsGood job
+pub good_job : (words : List (List ℕ)) (files : Option (List File)) (job : CommandJob) → Does words files job → IsGood job
 good_job words files job d = good_of d.what d.given job (good_specs files (files_of d.what) d.given.specs d.give.specs.each) d.is
 
 -- ---- what the code of a command may rely on

@@ -28,7 +28,7 @@ use Rattle.ax_blocks.specs.declared.end.StreamEnd.TheVariants as EndOf
 use Rattle.ax_words.specs.declared.line.Line.{Line}
 use Rattle.ax_words.specs.declared.line.Line.TheVariants.{Check, Canon, Show, Text, Build, Filter, Migrate, Trial, Salvage, Expand, Convert, Help, Version}
 use Rattle.ax_app.specs.Given.{Given}
-use Rattle.ax_app.specs.Jobs.{Job, writes, each_block, builds, salvages, refuses, IsJob, IsFilterJob, filters, refused, IsEditionsJob, answers_each, other_category, IsExpandJob, expands, unused, of_another, IsStopped, JobRuns, TextEnds, written, cut, no_memory}
+use Rattle.ax_app.specs.Jobs.{CommandJob, writes, each_block, builds, salvages, refuses, IsJob, IsFilterJob, filters, refused, IsEditionsJob, answers_each, other_category, IsExpandJob, expands, unused, of_another, IsStopped, JobRuns, TextEnds, written, cut, no_memory}
 use Rattle.ax_app.specs.Running.{Runs, at_words, no_words, at_files, before_input, in_job, NoCountFell, ReportsBlocks, RefusesLengths, ComparesCategories, ReadsExpansion, ReadsExpression, MayCome, IsOfItsCommand}
 use Rattle.ax_app.specs.Salvages.{outcome_of_salvage}
 
@@ -116,7 +116,7 @@ of_text what count text o outcome (no_memory is h still) = may_too what outcome 
 
 module _ (i : SourceChange) (o r : SinkChange) (outcome : Outcome) where
   -- the run of that job
-  run_of : (job other : Job) → job ≡ other → JobRuns job i o r outcome → JobRuns other i o r outcome
+  run_of : (job other : CommandJob) → job ≡ other → JobRuns job i o r outcome → JobRuns other i o r outcome
   run_of job other is runs = subst (λ j. JobRuns j i o r outcome) is runs
 
   silent : (what : Line) (c : BlockCommand) → IsSilent c → JobRuns (each_block c) i o r outcome → MayCome outcome what
@@ -125,22 +125,22 @@ module _ (i : SourceChange) (o r : SinkChange) (outcome : Outcome) where
   writing : (what : Line) (count : ℕ) (text : List ℕ) → JobRuns (writes count text) i o r outcome → MayCome outcome what
   writing what count text h = of_text what count text o outcome h.ends
 
-  filtering : (what : Line) (expression : List ℕ) (specs : List SpecTree) (job : Job) → IsFilterJob expression specs job → JobRuns job i o r outcome → MayCome outcome what
+  filtering : (what : Line) (expression : List ℕ) (specs : List SpecTree) (job : CommandJob) → IsFilterJob expression specs job → JobRuns job i o r outcome → MayCome outcome what
   filtering what expression specs job (filters e h is) runs = silent what _ (record { octets = _; answer = λ number block. refl }) (run_of job _ is runs)
   filtering what expression specs job (refused fault h is) runs = absurd (run_of job _ is runs)
 
-  between : (what : Line) (command : SpecTree → SpecTree → BlockCommand) → ReportsBlocks what → RefusesLengths what → (old new : SpecTree) (job : Job) → IsEditionsJob command old new job → JobRuns job i o r outcome → MayCome outcome what
+  between : (what : Line) (command : SpecTree → SpecTree → BlockCommand) → ReportsBlocks what → RefusesLengths what → (old new : SpecTree) (job : CommandJob) → IsEditionsJob command old new job → JobRuns job i o r outcome → MayCome outcome what
   between what command reports lengths old new job (answers_each same is) runs = let h : JobRuns (each_block (command old new)) i o r outcome = run_of job _ is runs in may_too what outcome _ h.is (of_spoken what reports lengths h.end)
   between what command reports lengths old new job (other_category differ is) runs = absurd (run_of job _ is runs)
 
-  expanding : (file expansion : List ℕ) (spec : SpecTree) (x : ExpansionTree) (job : Job) → IsExpandJob spec x job → JobRuns job i o r outcome → MayCome outcome (Expand file expansion)
+  expanding : (file expansion : List ℕ) (spec : SpecTree) (x : ExpansionTree) (job : CommandJob) → IsExpandJob spec x job → JobRuns job i o r outcome → MayCome outcome (Expand file expansion)
   expanding file expansion spec x job (expands same frn stands is) runs =
       let h : JobRuns (each_block (expand_command spec frn x)) i o r outcome = run_of job _ is runs in may_too (Expand file expansion) outcome _ h.is (of_expand file expansion spec frn x h.end h.runs.licensed)
   expanding file expansion spec x job (unused same none is) runs = absurd (run_of job _ is runs)
   expanding file expansion spec x job (of_another differ is) runs = absurd (run_of job _ is runs)
 
   -- one row for each command
-  own_in_job : (what : Line) (given : Given) (job : Job) → IsJob what given job → JobRuns job i o r outcome → MayCome outcome what
+  own_in_job : (what : Line) (given : Given) (job : CommandJob) → IsJob what given job → JobRuns job i o r outcome → MayCome outcome what
   own_in_job (Check file) given job is h = writing (Check file) _ _ (run_of job _ is.is h)
   own_in_job (Canon files) given job is h = silent (Canon files) _ (record { octets = _; answer = λ number block. refl }) (run_of job _ is h)
   own_in_job (Show files) given job is h = silent (Show files) _ (record { octets = _; answer = λ number block. refl }) (run_of job _ is h)

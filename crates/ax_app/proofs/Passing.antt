@@ -7,7 +7,7 @@ use Rattle.ax_grammar.specs.Printing.{kind_of}
 use Rattle.ax_grammar.specs.Spelling.{block, closed}
 use Rattle.ax_grammar.specs.declared.keyword.Keyword.{Keyword}
 use Rattle.ax_grammar.specs.declared.keyword.Keyword.TheVariants as Word
-use Rattle.ax_text.proofs.WordTokens.{IsWord}
+use Rattle.ax_text_form.proofs.WordTokens.{IsWord}
 
 -- the level keeps the limit, from one text to the next
 abbrev pub Levels : ℕ → ℕ → List (List ℕ) → Type 0

@@ -18,7 +18,7 @@ use Rattle.ax_salvage.specs.Verdicts.{judge_all}
 use Rattle.ax_salvage.specs.declared.salvaging.SalvageEnd.{SalvageEnd}
 use Rattle.ax_salvage.specs.declared.salvaging.SalvageEnd.TheVariants as EndOf
 use Rattle.ax_blocks.specs.Ending.{longest_input}
-use Rattle.ax_text.specs.Names.{IsNamed}
+use Rattle.ax_text_form.specs.Names.{IsNamed}
 use Rattle.ax_app.specs.Completing.{WholeFrames, IsDoneWith}
 use Rattle.ax_app.specs.Salvages.{outcome_of_salvage}
 

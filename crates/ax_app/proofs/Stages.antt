@@ -53,7 +53,7 @@ use Rattle.ax_app.specs.Answer.{by_words, by_files, by_refusal, by_job}
 use Rattle.ax_app.specs.Completing.{NoFaultCounted, HasWhole, IsDoneWith}
 use Rattle.ax_app.specs.Given.{LineGives, LineEnds, in_specs, in_expansion, files_of, takes_distinct, expansion_of}
 use Rattle.ax_app.specs.Headline.{Headline, answered, stopped_at_words, stopped_at_files, stopped_before_input, stopped_in_job, IsHindrance, of_library, of_memory}
-use Rattle.ax_app.specs.Jobs.{Job, writes, each_block, builds, salvages, refuses, ReadsInput, TextEnds, written, cut, no_memory, JobRuns}
+use Rattle.ax_app.specs.Jobs.{CommandJob, writes, each_block, builds, salvages, refuses, ReadsInput, TextEnds, written, cut, no_memory, JobRuns}
 use Rattle.ax_app.specs.Salvages.{outcome_of_salvage}
 use Rattle.ax_app.specs.Running.{Does, StopsAtFiles, StopsBeforeInput, Runs, at_words, no_words, at_files, before_input, in_job, Ended, Causes}
 
@@ -67,7 +67,7 @@ no_usage_of_text count text o outcome (written is h still) e = absurd (let x : D
 no_usage_of_text count text o outcome (cut is h once) e = absurd (let x : WriteFault ≡ Usage = sym is ∙ e in cc)
 no_usage_of_text count text o outcome (no_memory is h still) e = absurd (let x : OutOfMemory ≡ Usage = sym is ∙ e in cc)
 
-no_usage_in_job : (job : Job) (i : SourceChange) (o r : SinkChange) (outcome : Outcome) → JobRuns job i o r outcome → outcome ≡ Usage → ⊥
+no_usage_in_job : (job : CommandJob) (i : SourceChange) (o r : SinkChange) (outcome : Outcome) → JobRuns job i o r outcome → outcome ≡ Usage → ⊥
 no_usage_in_job (writes count text) i o r outcome h e = no_usage_of_text count text o outcome h.ends e
 no_usage_in_job (each_block c) i o r outcome h e = no_usage_of_blocks h.end (sym h.is ∙ e)
 no_usage_in_job (builds catalogue) i o r outcome h e = no_usage_of_lines h.end (sym h.is ∙ e)
@@ -160,7 +160,7 @@ pub salvage_headline : (words : List (List ℕ)) (files : List File) (c : Librar
 salvage_headline words files c input i o r outcome catalogue end d is (inl a) = answered a.out a.report (by_job (salvages catalogue) d (record { end = end; salvaged = a.salvaged; is = is })) a.wrote a.reported
 salvage_headline words files c input i o r outcome catalogue end d is (inr stops) = stopped_in_job (salvages catalogue) d (record { end = end; stops = stops; is = is })
 
-job_headline : (words : List (List ℕ)) (files : List File) (c : LibraryCounts) (input : List ℕ) (i : SourceChange) (o r : SinkChange) (outcome : Outcome) (job : Job) → AreOctets input → i.left ≡ Some input
+job_headline : (words : List (List ℕ)) (files : List File) (c : LibraryCounts) (input : List ℕ) (i : SourceChange) (o r : SinkChange) (outcome : Outcome) (job : CommandJob) → AreOctets input → i.left ≡ Some input
     → Does words (Some files) job → JobRuns job i o r outcome → Headline words files c input i o r outcome
 job_headline words files c input i o r outcome (writes count text) octets left d h = text_headline words files c input i o r outcome count text d h.untouched h.report h.ends
 job_headline words files c input i o r outcome (each_block k) octets left d h = blocks_headline words files c input i o r outcome k h.end d h.is (h.runs.told input octets left)
@@ -210,7 +210,7 @@ same_whole outcome n count o r text all lines said a b c (inl memory) = inl memo
 same_whole outcome n count o r text all lines said a b c (inr (done, out, report)) = inr (done ∙ ap Done (sym a), out ∙ ap (with_end o.held) (sym b), report ∙ ap (with_end r.held) (sym c))
 
 module _ (input : List ℕ) (i : SourceChange) (o r : SinkChange) (outcome : Outcome) (count : ℕ) (all said : List ℕ) (octets : AreOctets input) (left : i.left ≡ Some input) (source : Rose i.faults i.faults' → ⊥) (out : Rose o.faults o.faults' → ⊥) (report : Rose r.faults r.faults' → ⊥) where
-  job_completes : (job : Job) → IsGood job → HasWhole job input count all said → JobRuns job i o r outcome → IsDoneWith outcome count o r all said
+  job_completes : (job : CommandJob) → IsGood job → HasWhole job input count all said → JobRuns job i o r outcome → IsDoneWith outcome count o r all said
   job_completes (writes blocks text) good can h = same_whole outcome blocks count o r text all [] said can.count_is can.written_is can.reported_is (text_completes blocks text o r outcome h.report out h.ends)
   job_completes (each_block k) good can h =
       same_whole outcome (length can.blocks) count o r (output_of k 0 can.blocks) all (report_of k 0 can.blocks) said can.count_is can.written_is can.reported_is
@@ -223,13 +223,13 @@ module _ (input : List ℕ) (i : SourceChange) (o r : SinkChange) (outcome : Out
   job_completes (refuses refusal) good can h = absurd can
 
 -- a job with a whole result isn't refused
-not_refused : (words : List (List ℕ)) (files : List File) (input : List ℕ) (job : Job) (count : ℕ) (all said : List ℕ) (stop : JobStop) → Does words (Some files) job → HasWhole job input count all said → StopsBeforeInput words (Some files) stop → stop ≡ JobStopOf.OutOfMemory
+not_refused : (words : List (List ℕ)) (files : List File) (input : List ℕ) (job : CommandJob) (count : ℕ) (all said : List ℕ) (stop : JobStop) → Does words (Some files) job → HasWhole job input count all said → StopsBeforeInput words (Some files) stop → stop ≡ JobStopOf.OutOfMemory
 not_refused words files input job count all said (JobStopOf.Refused refusal) d can h =
     let same : job ≡ refuses refusal = does_once words files job (refuses refusal) d (record { what = h.what; shape = h.shape; given = h.given; give = h.give; is = h.stopped }) in
     absurd (subst (λ j. HasWhole j input count all said) same can)
 not_refused words files input job count all said JobStopOf.OutOfMemory d can h = refl
 
-run_completes : (words : List (List ℕ)) (files : List File) (c : LibraryCounts) (input : List ℕ) (i : SourceChange) (o r : SinkChange) (outcome : Outcome) (job : Job) (count : ℕ) (all said : List ℕ) → AreOctets input → i.left ≡ Some input
+run_completes : (words : List (List ℕ)) (files : List File) (c : LibraryCounts) (input : List ℕ) (i : SourceChange) (o r : SinkChange) (outcome : Outcome) (job : CommandJob) (count : ℕ) (all said : List ℕ) → AreOctets input → i.left ≡ Some input
     → (Rose c.faults c.faults' → ⊥) → (Rose i.faults i.faults' → ⊥) → (Rose o.faults o.faults' → ⊥) → (Rose r.faults r.faults' → ⊥) → Does words (Some files) job → HasWhole job input count all said → Runs words (Some files) c i o r outcome
     → IsDoneWith outcome count o r all said
 run_completes words files c input i o r outcome job count all said octets left library source out report d can (at_words none is unasked idle) = absurd (none d.what d.shape)
@@ -259,14 +259,14 @@ lines_read catalogue input i o end count is (inr (OfLines.reading e s)) = absurd
 lines_read catalogue input i o end count is (inr (OfLines.writing e s)) = absurd (let x : ◌≡◌ {A = LinesEnd TextFault} (LinesEndOf.Done count) LinesEndOf.WriteFault = sym is ∙ e in cc)
 lines_read catalogue input i o end count is (inr (OfLines.for_memory e s)) = absurd (let x : ◌≡◌ {A = LinesEnd TextFault} (LinesEndOf.Done count) LinesEndOf.OutOfMemory = sym is ∙ e in cc)
 
-job_reads : (job : Job) (input : List ℕ) (i : SourceChange) (o r : SinkChange) (outcome : Outcome) (count : ℕ) → AreOctets input → i.left ≡ Some input → ReadsInput job → outcome ≡ Done count → JobRuns job i o r outcome → i.left' ≡ Some []
+job_reads : (job : CommandJob) (input : List ℕ) (i : SourceChange) (o r : SinkChange) (outcome : Outcome) (count : ℕ) → AreOctets input → i.left ≡ Some input → ReadsInput job → outcome ≡ Done count → JobRuns job i o r outcome → i.left' ≡ Some []
 job_reads (writes blocks text) input i o r outcome count octets left reads done h = absurd reads
 job_reads (each_block k) input i o r outcome count octets left reads done h = blocks_read k input i o r h.end count (done_of_blocks h.end count (sym h.is ∙ done)) (h.runs.told input octets left)
 job_reads (builds catalogue) input i o r outcome count octets left reads done h = lines_read catalogue input i o h.end count (done_of_lines h.end count (sym h.is ∙ done)) (h.runs.told input left)
 job_reads (salvages catalogue) input i o r outcome count octets left reads done h = salvage_reads catalogue input i o r h.end count (done_of_salvage h.end count (sym h.is ∙ done)) (h.runs.told input octets left)
 job_reads (refuses refusal) input i o r outcome count octets left reads done h = absurd reads
 
-done_reads : (words : List (List ℕ)) (files : List File) (c : LibraryCounts) (input : List ℕ) (i : SourceChange) (o r : SinkChange) (outcome : Outcome) (job : Job) (count : ℕ) → AreOctets input → i.left ≡ Some input
+done_reads : (words : List (List ℕ)) (files : List File) (c : LibraryCounts) (input : List ℕ) (i : SourceChange) (o r : SinkChange) (outcome : Outcome) (job : CommandJob) (count : ℕ) → AreOctets input → i.left ≡ Some input
     → Does words (Some files) job → ReadsInput job → outcome ≡ Done count → Runs words (Some files) c i o r outcome → i.left' ≡ Some []
 done_reads words files c input i o r outcome job count octets left d reads done (at_words none is unasked idle) = absurd (let x : Usage ≡ Done count = sym is ∙ done in cc)
 done_reads words files c input i o r outcome job count octets left d reads done (no_words is unasked idle) = absurd (let x : OutOfMemory ≡ Done count = sym is ∙ done in cc)
@@ -312,7 +312,7 @@ done_after o held between held' faults counted faults' count all said outcome re
     inr (done, out, no_lines held between held' faults counted faults' said result a quiet report (subst (λ l. Wrote (record { held = between; held' = held'; faults = counted; faults' = faults' }) result l) none w))
 
 pub completes : (words : List (List ℕ)) (told : Option (List File)) (files : List File) (c : LibraryCounts) (input : List ℕ) (i : SourceChange) (o : SinkChange) (held between held' : Option (List ℕ)) (faults counted faults' : ℕ) (outcome : Outcome) (result : Result Unit SinkFailed)
-    (job : Job) (count : ℕ) (all said : List ℕ) → faults ≤ counted → counted ≤ faults' → Wrote (record { held = between; held' = held'; faults = counted; faults' = faults' }) result (lines_of outcome)
+    (job : CommandJob) (count : ℕ) (all said : List ℕ) → faults ≤ counted → counted ≤ faults' → Wrote (record { held = between; held' = held'; faults = counted; faults' = faults' }) result (lines_of outcome)
     → Runs words told c i o (record { held = held; held' = between; faults = faults; faults' = counted }) outcome
     → AreOctets input → told ≡ Some files → i.left ≡ Some input → NoFaultCounted c i o (record { held = held; held' = held'; faults = faults; faults' = faults' }) → Does words (Some files) job → HasWhole job input count all said
     → IsDoneWith outcome count o (record { held = held; held' = held'; faults = faults; faults' = faults' }) all said
@@ -321,7 +321,7 @@ completes words told files c input i o held between held' faults counted faults'
     (run_completes words files c input i o (record { held = held; held' = between; faults = faults; faults' = counted }) outcome job count all said octets left quiet.library quiet.source quiet.out
     (λ rose. quiet.report (Rose-on faults counted faults' a b rose)) d can (subst (λ t. Runs words t c i o (record { held = held; held' = between; faults = faults; faults' = counted }) outcome) is runs))
 
-pub reads_all : (words : List (List ℕ)) (told : Option (List File)) (files : List File) (c : LibraryCounts) (input : List ℕ) (i : SourceChange) (o r : SinkChange) (outcome : Outcome) (job : Job) (count : ℕ) → told ≡ Some files → AreOctets input → i.left ≡ Some input
+pub reads_all : (words : List (List ℕ)) (told : Option (List File)) (files : List File) (c : LibraryCounts) (input : List ℕ) (i : SourceChange) (o r : SinkChange) (outcome : Outcome) (job : CommandJob) (count : ℕ) → told ≡ Some files → AreOctets input → i.left ≡ Some input
     → Does words (Some files) job → ReadsInput job → outcome ≡ Done count → Runs words told c i o r outcome → i.left' ≡ Some []
 reads_all words told files c input i o r outcome job count is octets left d reads done runs =
     done_reads words files c input i o r outcome job count octets left d reads done (subst (λ t. Runs words t c i o r outcome) is runs)

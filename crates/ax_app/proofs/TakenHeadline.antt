@@ -10,7 +10,7 @@ use Rattle.ax_blocks.specs.Streams.{IsIdle}
 use Rattle.ax_app.proofs.Stages.{text_headline, blocks_headline, lines_headline, salvage_headline, before_headline, files_headline, at_files_of}
 use Rattle.ax_app.specs.Answer.{by_words}
 use Rattle.ax_app.specs.Headline.{Headline, answered, stopped_at_words, as_told, HeadlineOfTaken}
-use Rattle.ax_app.specs.Jobs.{Job, writes, each_block, builds, salvages, refuses, JobRuns}
+use Rattle.ax_app.specs.Jobs.{CommandJob, writes, each_block, builds, salvages, refuses, JobRuns}
 use Rattle.ax_app.specs.Running.{Does, Runs, at_words, no_words, at_files, before_input, in_job}
 
 no_front : (left : Option (List ℕ)) → left ≡ with_front [] left
@@ -39,7 +39,7 @@ none_taken words files c i o r outcome h headline = record {
   headline = headline;
 }
 
-job_taken : (words : List (List ℕ)) (files : List File) (c : LibraryCounts) (i : SourceChange) (o r : SinkChange) (outcome : Outcome) (job : Job) → Does words (Some files) job → JobRuns job i o r outcome → HeadlineOfTaken words files c i o r outcome
+job_taken : (words : List (List ℕ)) (files : List File) (c : LibraryCounts) (i : SourceChange) (o r : SinkChange) (outcome : Outcome) (job : CommandJob) → Does words (Some files) job → JobRuns job i o r outcome → HeadlineOfTaken words files c i o r outcome
 job_taken words files c i o r outcome (writes count text) d h =
     none_taken words files c i o r outcome h.untouched (text_headline words files c [] (as_told i []) o r outcome count text d (untouched_as_told i h.untouched) h.report h.ends)
 job_taken words files c i o r outcome (each_block k) d h =

@@ -15,21 +15,21 @@ use Rattle.ax_words.specs.declared.line.Line.{Line}
 use Rattle.ax_words.specs.declared.line.Line.TheVariants.{Filter, Expand}
 use Rattle.ax_app.specs.Channels.{Changes}
 use Rattle.ax_app.specs.Given.{Given, only}
-use Rattle.ax_app.specs.Jobs.{Job, each_block, JobRuns, RunsJob, IsStopped}
+use Rattle.ax_app.specs.Jobs.{CommandJob, each_block, JobRuns, RunsJob, IsStopped}
 use Rattle.ax_app.specs.Loaded.{with_expansion}
 use Rattle.ax_app.specs.Running.{NoFaultFell, WasIdle, WantsFirst}
 
 -- ---- a job
 
 -- it was run, or memory was wanting before anything was taken or written
-pub record RunsAs (job : Job) (x : Changes) (result : Result Outcome JobStop) : Type 0 where
+pub record RunsAs (job : CommandJob) (x : Changes) (result : Result Outcome JobStop) : Type 0 where
   pub runs : IfOk result (JobRuns job x.source x.out x.report)
   pub memory : IfErr result (λ stop. stop ≡ OutOfMemory)
   pub idle : OnErr result (IsIdle x.source x.out x.report)
   pub later : NoFaultFell x
 
 -- so it is, and all memory was taken before the input was read
-pub record RunsPrepared (job : Job) (x : Changes) (result : Result Outcome JobStop) : Type 0 where
+pub record RunsPrepared (job : CommandJob) (x : Changes) (result : Result Outcome JobStop) : Type 0 where
   pub does : RunsAs job x result
   pub first : IfOk result (WasIdle x)
 

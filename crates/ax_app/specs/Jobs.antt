@@ -37,8 +37,8 @@ use Rattle.ax_blocks.specs.Ending.{longest_input}
 use Rattle.ax_blocks.specs.Made.{tree_command}
 use Rattle.ax_blocks.specs.Streams.{StreamAnswers, StreamRuns}
 use Rattle.ax_blocks.specs.declared.end.StreamEnd.{StreamEnd}
-use Rattle.ax_text.specs.BlockText.{BlockLine, OpaqueLine}
-use Rattle.ax_text.specs.ShowText.{ShowText, OpaqueShown}
+use Rattle.ax_text_form.specs.BlockText.{BlockLine, OpaqueLine}
+use Rattle.ax_text_form.specs.ShowText.{ShowText, OpaqueShown}
 use Rattle.ax_trial.specs.Trial.{IsTrial}
 use Rattle.ax_app.specs.Given.{Given}
 use Rattle.ax_app.specs.Salvages.{outcome_of_salvage}
@@ -48,18 +48,18 @@ use Rattle.ax_words.specs.declared.line.Line.TheVariants.{Check, Canon, Show, Te
 -- it writes a text, which counts so many blocks, and reads no input, or it answers each block of the input, or it builds a
 -- block of each line of the input that has a token, under this catalogue; or it salvages the blocks of the input, under this
 -- catalogue; or it refuses what else the words say, or what its files have in common
-pub data Job : Type 0 where
-  writes : ℕ → List ℕ → Job
-  each_block : BlockCommand → Job
-  builds : List SpecTree → Job
-  salvages : List SpecTree → Job
-  refuses : Refusal → Job
+pub data CommandJob : Type 0 where
+  writes : ℕ → List ℕ → CommandJob
+  each_block : BlockCommand → CommandJob
+  builds : List SpecTree → CommandJob
+  salvages : List SpecTree → CommandJob
+  refuses : Refusal → CommandJob
 
 -- what `check` writes: the line of the accepted file, and the specification printed
 abbrev pub check_text : SpecTree → List ℕ
 check_text spec = accepted_line spec ++ printed spec
 
-pub record IsCheckJob (specs : List SpecTree) (job : Job) : Type 0 where
+pub record IsCheckJob (specs : List SpecTree) (job : CommandJob) : Type 0 where
   pub spec : SpecTree
   pub one : specs ≡ spec ∷ []
   pub is : job ≡ writes 0 (check_text spec)
@@ -73,24 +73,24 @@ abbrev pub text_command : List SpecTree → BlockCommand
 text_command catalogue = tree_command (λ number spec block. BlockLine spec block) (λ number category content. OpaqueLine category content) catalogue
 
 -- `filter`: over the specifications of its files its expression is a filter, or is refused
-pub data IsFilterJob (expression : List ℕ) (specs : List SpecTree) (job : Job) : Type 0 where
+pub data IsFilterJob (expression : List ℕ) (specs : List SpecTree) (job : CommandJob) : Type 0 where
   filters : (e : ExprTree) → IsFilterText specs expression e → job ≡ each_block (filter_command e specs) → IsFilterJob expression specs job
   refused : (fault : FilterFault) → IsRefused specs expression fault → job ≡ refuses (FilterRefused fault) → IsFilterJob expression specs job
 
 -- `migrate` and `convert`, each by its command: of two editions of one category it answers each block; two of different
 -- categories it refuses
-pub data IsEditionsJob (command : SpecTree → SpecTree → BlockCommand) (old new : SpecTree) (job : Job) : Type 0 where
+pub data IsEditionsJob (command : SpecTree → SpecTree → BlockCommand) (old new : SpecTree) (job : CommandJob) : Type 0 where
   answers_each : old.category ≡ new.category → job ≡ each_block (command old new) → IsEditionsJob command old new job
   other_category : (old.category ≡ new.category → ⊥) → job ≡ refuses (OtherCategory old.category new.category) → IsEditionsJob command old new job
 
-pub record OverEditions (command : SpecTree → SpecTree → BlockCommand) (specs : List SpecTree) (job : Job) : Type 0 where
+pub record OverEditions (command : SpecTree → SpecTree → BlockCommand) (specs : List SpecTree) (job : CommandJob) : Type 0 where
   pub old : SpecTree
   pub new : SpecTree
   pub two : specs ≡ old ∷ new ∷ []
   pub is : IsEditionsJob command old new job
 
 -- `trial`: the line of so many blocks made from the seed over its file
-pub record IsTrialJob (seed count : ℕ) (specs : List SpecTree) (job : Job) : Type 0 where
+pub record IsTrialJob (seed count : ℕ) (specs : List SpecTree) (job : CommandJob) : Type 0 where
   pub spec : SpecTree
   pub one : specs ≡ spec ∷ []
   pub line : List ℕ
@@ -99,12 +99,12 @@ pub record IsTrialJob (seed count : ℕ) (specs : List SpecTree) (job : Job) : T
 
 -- `expand`: of a category file and an expansion of one category, where the UAP has an item RE of kind explicit, it answers each
 -- block; else it refuses, first for the categories
-pub data IsExpandJob (spec : SpecTree) (x : ExpansionTree) (job : Job) : Type 0 where
+pub data IsExpandJob (spec : SpecTree) (x : ExpansionTree) (job : CommandJob) : Type 0 where
   expands : spec.category ≡ x.category → (frn : ℕ) → re_frn spec ≡ Some frn → job ≡ each_block (expand_command spec frn x) → IsExpandJob spec x job
   unused : spec.category ≡ x.category → re_frn spec ≡ None → job ≡ refuses (ExpansionUnused spec.category) → IsExpandJob spec x job
   of_another : (spec.category ≡ x.category → ⊥) → job ≡ refuses (OtherCategory spec.category x.category) → IsExpandJob spec x job
 
-pub record ExpandsBy (given : Given) (job : Job) : Type 0 where
+pub record ExpandsBy (given : Given) (job : CommandJob) : Type 0 where
   pub spec : SpecTree
   pub x : ExpansionTree
   pub one : given.specs ≡ spec ∷ []
@@ -119,7 +119,7 @@ abbrev pub version_text : List ℕ
 version_text = codes "asterix 1\n"
 
 -- the job of a line, over what its files give
-abbrev pub IsJob : Line → Given → Job → Type 0
+abbrev pub IsJob : Line → Given → CommandJob → Type 0
 IsJob (Check file) given job = IsCheckJob given.specs job
 IsJob (Canon files) given job = job ≡ each_block (canon_command given.specs)
 IsJob (Show files) given job = job ≡ each_block (show_command given.specs)
@@ -139,7 +139,7 @@ abbrev pub IsStopped : Line → Given → JobStop → Type 0
 IsStopped line given (JobStopOf.Refused refusal) = IsJob line given (refuses refusal)
 IsStopped line given JobStopOf.OutOfMemory = Unit {0}
 
-abbrev pub ReadsInput : Job → Type 0
+abbrev pub ReadsInput : CommandJob → Type 0
 ReadsInput (writes count text) = ⊥
 ReadsInput (each_block c) = Unit {0}
 ReadsInput (builds catalogue) = Unit {0}
@@ -175,7 +175,7 @@ pub record SalvageGives (catalogue : List SpecTree) (input : List ℕ) (outcome 
   pub salvaged : Salvaged catalogue input longest_input end written reported
   pub is : outcome ≡ outcome_of_salvage end
 
-abbrev pub JobAnswers : Job → List ℕ → Outcome → List ℕ → List ℕ → Type 0
+abbrev pub JobAnswers : CommandJob → List ℕ → Outcome → List ℕ → List ℕ → Type 0
 JobAnswers (writes count text) input outcome written reported = TextAnswers count text outcome written reported
 JobAnswers (each_block c) input outcome written reported = BlocksAnswer c input outcome written reported
 JobAnswers (builds catalogue) input outcome written reported = BuildAnswers catalogue input outcome written reported
@@ -213,7 +213,7 @@ pub record SalvageRun (catalogue : List SpecTree) (i : SourceChange) (o r : Sink
   pub runs : SalvageRuns catalogue longest_input i o r end
   pub is : outcome ≡ outcome_of_salvage end
 
-abbrev pub JobRuns : Job → SourceChange → SinkChange → SinkChange → Outcome → Type 0
+abbrev pub JobRuns : CommandJob → SourceChange → SinkChange → SinkChange → Outcome → Type 0
 JobRuns (writes count text) i o r outcome = TextRuns count text i o r outcome
 JobRuns (each_block c) i o r outcome = BlocksRun c i o r outcome
 JobRuns (builds catalogue) i o r outcome = BuildRuns catalogue i o r outcome
@@ -262,6 +262,6 @@ EndsTrialOver specs seed count o outcome = (spec : SpecTree) → specs ≡ spec 
 
 -- the line's job was run
 pub record RunsJob (line : Line) (given : Given) (i : SourceChange) (o r : SinkChange) (outcome : Outcome) : Type 0 where
-  pub job : Job
+  pub job : CommandJob
   pub is : IsJob line given job
   pub runs : JobRuns job i o r outcome

@@ -16,10 +16,10 @@ use Rattle.ax_words.specs.declared.line.Line.TheVariants as LineOf
 use Rattle.ax_app.specs.Channels.{Changes}
 use Rattle.ax_app.specs.Counting.{LoadsAll, LoadsThrough}
 use Rattle.ax_app.specs.Given.{Given, LineGives, LineEnds}
-use Rattle.ax_app.specs.Jobs.{Job, IsJob, IsStopped, JobRuns}
+use Rattle.ax_app.specs.Jobs.{CommandJob, IsJob, IsStopped, JobRuns}
 
 -- the words ask for this, its files give this, and over it it is this job
-pub record Does (words : List (List ℕ)) (files : Option (List File)) (job : Job) : Type 0 where
+pub record Does (words : List (List ℕ)) (files : Option (List File)) (job : CommandJob) : Type 0 where
   pub what : Line
   pub shape : HasShape words what
   pub given : Given
@@ -46,7 +46,7 @@ pub data Runs (words : List (List ℕ)) (files : Option (List File)) (c : Librar
   no_words : outcome ≡ OutOfMemory → IsUnasked c → IsIdle i o r → Runs words files c i o r outcome
   at_files : (stop : LoadStop) (h : StopsAtFiles words files c stop) → LoadsThrough h.what files c stop → outcome ≡ outcome_of_stop stop → IsIdle i o r → Runs words files c i o r outcome
   before_input : (stop : JobStop) (h : StopsBeforeInput words files stop) → LoadsAll h.what files c → outcome ≡ outcome_of_job_stop stop → IsIdle i o r → Runs words files c i o r outcome
-  in_job : (job : Job) (d : Does words files job) → LoadsAll d.what files c → JobRuns job i o r outcome → Runs words files c i o r outcome
+  in_job : (job : CommandJob) (d : Does words files job) → LoadsAll d.what files c → JobRuns job i o r outcome → Runs words files c i o r outcome
 
 -- ---- the report, to which the lines of the outcome come last
 

@@ -11,7 +11,7 @@ use ax_blocks::{BlockReader, BlockWork};
 use ax_endpoints::{Sink, Source};
 
 /// The loop over a work that takes no memory.
-fn drive_blocks<W: BlockWork, S: Source, K: Sink, R: Sink>(
+fn drive_work<W: BlockWork, S: Source, K: Sink, R: Sink>(
     reader: &mut BlockReader,
     blocks: &mut W,
     io: Channels<'_, S, K, R>,
@@ -26,7 +26,7 @@ fn drive_blocks<W: BlockWork, S: Source, K: Sink, R: Sink>(
         out,
         report,
     } = io;
-    end_of(ax_blocks::drive(reader, blocks, source, out, report))
+    end_of(ax_blocks::drive_blocks(reader, blocks, source, out, report))
 }
 
 /// The same, for each job.
@@ -39,9 +39,9 @@ fn drive_job<S: Source, K: Sink, R: Sink>(
 {
     let reader = &mut work.reader;
     match &mut work.blocks {
-        BlocksWork::Canon(blocks) => drive_blocks(reader, blocks, io),
-        BlocksWork::Filter(blocks) => drive_blocks(reader, blocks, io),
-        BlocksWork::Migrate(blocks) => drive_blocks(reader, blocks, io),
+        BlocksWork::Canon(blocks) => drive_work(reader, blocks, io),
+        BlocksWork::Filter(blocks) => drive_work(reader, blocks, io),
+        BlocksWork::Migrate(blocks) => drive_work(reader, blocks, io),
     }
 }
 

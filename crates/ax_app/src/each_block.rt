@@ -33,7 +33,7 @@ pub(crate) fn answer_blocks<W: BlockWork, S: Source, K: Sink, R: Sink>(
 
 /// Does a job on each block of the input. All memory is taken before the input is read.
 #[tactic(auto, using(crate::proofs::Commands::commands))]
-pub(crate) fn drive_job<S: Source, K: Sink, R: Sink>(
+pub(crate) fn answer_job<S: Source, K: Sink, R: Sink>(
     alloc: Global,
     job: Job<'_, '_>,
     io: Channels<'_, S, K, R>,

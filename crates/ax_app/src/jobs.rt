@@ -17,7 +17,7 @@ ghost use Rattle.ax_app.specs.Loaded.{given_of, IsLoadedFor};
 
 use crate::channels::Channels;
 use crate::converting::convert_blocks;
-use crate::each_block::{answer_blocks, drive_job};
+use crate::each_block::{answer_blocks, answer_job};
 use crate::expanding::expand;
 use crate::job::Job;
 use crate::loading::Loaded;
@@ -30,11 +30,11 @@ use ax_endpoints::{LONGEST_INPUT, Sink, Source, write_text};
 use ax_filter::{FilterStop, read_expression};
 use ax_format::Spec;
 use ax_grammar::print_spec;
+use ax_listing::ShowViews;
 use ax_migrate_views::Migrator;
 use ax_salvage::{Salvage, salvage};
-use ax_show_views::ShowViews;
 use ax_tables::{Codecs, compile};
-use ax_text_views::TextViews;
+use ax_text_lines::TextViews;
 use ax_trial::trial_text;
 use ax_words::Line;
 use std::alloc::{AllocError, Global};
@@ -130,7 +130,7 @@ fn canon<S: Source, K: Sink, R: Sink>(
     ensures { RunsEachPrepared (canon_command (catalogue_tree catalogue.now)) (changes S.Source K.Sink R.Sink io.entry io.exit) result }
 {
     let codecs = Codecs::compile(alloc, catalogue)?;
-    drive_job(alloc, Job::Canon(catalogue, &codecs), io)
+    answer_job(alloc, Job::Canon(catalogue, &codecs), io)
 }
 
 /// `show`: the listing of each block.
@@ -172,7 +172,7 @@ fn filter_blocks<S: Source, K: Sink, R: Sink>(
     ensures { RunsFilterOf filter.now (changes S.Source K.Sink R.Sink io.entry io.exit) result }
 {
     let codecs = Codecs::compile(alloc, catalogue)?;
-    drive_job(alloc, Job::Filter(&codecs, filter), io)
+    answer_job(alloc, Job::Filter(&codecs, filter), io)
 }
 
 /// `filter`: the records of each block that the expression holds of, or the refusal of the expression.
@@ -207,7 +207,7 @@ fn migrate_blocks<'x, S: Source, K: Sink, R: Sink>(
 {
     let codec = compile(alloc, old)?;
     let migrator = Migrator::new(alloc, old.spec(), new.spec(), relation, &codec)?;
-    drive_job(alloc, Job::Migrate(&migrator), io)
+    answer_job(alloc, Job::Migrate(&migrator), io)
 }
 
 /// The relation of two editions, or the refusal of two categories.

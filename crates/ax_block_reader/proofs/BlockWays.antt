@@ -11,12 +11,12 @@ use Rattle.ax_format.specs.Paths.{three_digits}
 use Rattle.ax_format.specs.Specification.{SpecTree, spec_of}
 use Rattle.ax_format.specs.Streams.{FitsOver}
 use Rattle.ax_format.specs.Tree.{EntriesTree, no_entries}
-use Rattle.ax_text.proofs.Unique.{different}
-use Rattle.ax_text.specs.Tokens.{TextOver}
-use Rattle.ax_text.specs.ValueText.{hex_text}
+use Rattle.ax_text_form.proofs.Unique.{different}
+use Rattle.ax_text_form.specs.Tokens.{TextOver}
+use Rattle.ax_text_form.specs.ValueText.{hex_text}
 use Rattle.ax_block_reader.specs.BlockForms.{IsCategoryText, HasKnown, HasLacked, ReadShape, OpaqueShape, records_over, after_block_word, after_opaque_word}
 use Rattle.ax_block_reader.specs.BlockTexts.{block_texts, IsBlockText}
-use Rattle.ax_text.specs.CatalogueBlocks.{IsBlockOf}
+use Rattle.ax_text_form.specs.CatalogueBlocks.{IsBlockOf}
 use Rattle.ax_block_reader.specs.Continuing.{Done, Continues, Spelled, IsRead}
 use Rattle.ax_block_reader.specs.Languages.{IsContent}
 use Rattle.ax_block_reader.specs.Records.{SomeRecords, braced_records_texts}

@@ -5,7 +5,7 @@ use Rattle.ax_tokens.specs.Stopping.{Texts, Stops, IsNotFirst, Word, Then}
 use Rattle.ax_tokens.specs.declared.stopped.Stopped.{Stopped}
 use Rattle.ax_tokens.specs.declared.stopped.Stopped.TheVariants.{Bad, OutOfMemory}
 use Rattle.ax_tokens.proofs.Stops.{BeginsWith, same_lacks, first_lacks}
-use Rattle.ax_text.specs.ValueText.{closing}
+use Rattle.ax_text_form.specs.ValueText.{closing}
 use Rattle.ax_block_reader.specs.Continuing.{Done, Continues, Spelled, IsRead, Gives}
 use Rattle.ax_block_reader.proofs.Continuations.{none_read, none_front, both_read, both_front, lacks_there, then_read, then_front, word_read, skip_read, skip_front, cut_stops, Prefixed, prefix_read}
 

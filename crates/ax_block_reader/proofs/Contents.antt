@@ -14,8 +14,8 @@ use Rattle.ax_format.specs.Plain.{value_tree}
 use Rattle.ax_format.specs.Shape.{Shape}
 use Rattle.ax_format.specs.Tree.{explicit, ValueTree, content_octets}
 use Rattle.ax_format.specs.declared.value.Value.TheVariants.{Octets}
-use Rattle.ax_text.proofs.Unique.{same_hex}
-use Rattle.ax_text.specs.ValueText.{hex_text}
+use Rattle.ax_text_form.proofs.Unique.{same_hex}
+use Rattle.ax_text_form.specs.ValueText.{hex_text}
 use Rattle.ax_block_reader.specs.Continuing.{Done, Spelled, IsRead}
 use Rattle.ax_block_reader.specs.Languages.{kind_texts, IsNoDigits, IsHexText, IsNoHexText, IsContent}
 use Rattle.ax_block_reader.proofs.Continuations.{tails, no_text, word_read, begin_stops}

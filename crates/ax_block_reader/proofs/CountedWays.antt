@@ -7,15 +7,15 @@ use Rattle.ax_format.specs.Plain.{value_tree, values_tree}
 use Rattle.ax_format.specs.Shape.{Shape}
 use Rattle.ax_format.specs.Tree.{KindTree, ValueTree, ValuesTree, no_values, value_and}
 use Rattle.ax_format.specs.declared.value.Value.{Value}
-use Rattle.ax_text.specs.Readable.{Readable}
-use Rattle.ax_text.specs.ValueText.{closing, kind_onto}
+use Rattle.ax_text_form.specs.Readable.{Readable}
+use Rattle.ax_text_form.specs.ValueText.{closing, kind_onto}
 use Rattle.ax_block_reader.specs.Continuing.{Continues, Spelled, IsRead}
 use Rattle.ax_block_reader.specs.Languages.{kind_texts, each_texts, FewerThan}
 use Rattle.ax_block_reader.proofs.Continuations.{skip_read, skip_front}
 use Rattle.ax_block_reader.proofs.Collecting.{Collects, none_collected, more_collected, all_collected, same_put, left_lacks, one_collected, one_lacks, Closes, closing_read, closing_lacks, closing_cut}
 use Rattle.ax_block_reader.proofs.Firsts.{kind_first, fewer_closes}
 use Rattle.ax_block_reader.proofs.MemberWays.{values_before, before_none, before_more}
-use Rattle.ax_text.proofs.Onto.{kind_more}
+use Rattle.ax_text_form.proofs.Onto.{kind_more}
 
 -- values of a kind, fewer than the bound
 module _ (bound : ℕ) (k : KindTree) where

@@ -11,7 +11,7 @@ use Rattle.ax_tokens.specs.Stopping.{Texts, StopsAt, One}
 use Rattle.ax_tokens.proofs.Stops.{one_stops}
 use Rattle.ax_tokens.proofs.Words.{not_first, none_first}
 use Rattle.ax_block_reader.specs.Languages.{IsNumberText}
-use Rattle.ax_text.proofs.Unique.{same_decimal}
+use Rattle.ax_text_form.proofs.Unique.{same_decimal}
 
 pub wide : (n : ℕ) → n < 2 ^ 128 → n < 10 ^ 64
 wide n lt = omega (arith, lt)

@@ -14,17 +14,17 @@ use Rattle.ax_format.specs.Tree.{KindTree, SlotTree, SlotsTree, no_slots, slot_a
 use Rattle.ax_format.specs.declared.kind.Slot.{Slot}
 use Rattle.ax_format.specs.declared.value.Entry.{Entry, roll-Entry, fold-roll-Entry}
 use Rattle.ax_format.specs.declared.value.Value.{Value}
-use Rattle.ax_text.proofs.Printed.{from_place}
-use Rattle.ax_text.proofs.Unique.{entries_never}
-use Rattle.ax_text.specs.Readable.{Lacks, SlotLacks, SlotReadable, SlotsReadable}
-use Rattle.ax_text.specs.Slots.{SlotShape}
-use Rattle.ax_text.specs.ValueText.{closing, kind_onto, entries_onto}
+use Rattle.ax_text_form.proofs.Printed.{from_place}
+use Rattle.ax_text_form.proofs.Unique.{entries_never}
+use Rattle.ax_text_form.specs.Readable.{Lacks, SlotLacks, SlotReadable, SlotsReadable}
+use Rattle.ax_text_form.specs.Slots.{SlotShape}
+use Rattle.ax_text_form.specs.ValueText.{closing, kind_onto, entries_onto}
 use Rattle.ax_block_reader.specs.Continuing.{Continues, Spelled, IsRead}
 use Rattle.ax_block_reader.specs.Entries.{slot_texts, SlotNamed, IsNotNamed, IsNamedAt}
 use Rattle.ax_block_reader.specs.Languages.{entries_texts}
 use Rattle.ax_block_reader.proofs.Continuations.{tails, no_text, first_read, first_front, cut_stops}
 use Rattle.ax_block_reader.proofs.Collecting.{Collects, none_collected, more_collected, all_collected, same_put, left_lacks, one_collected, one_lacks, skip_collected, Closes, closing_read, closing_lacks}
-use Rattle.ax_text.proofs.Onto.{kind_more}
+use Rattle.ax_text_form.proofs.Onto.{kind_more}
 
 abbrev AreEntries : ℕ → SlotsTree → Texts → Type 0
 AreEntries s ss = Spelled (EntriesShape s ss) (entries_texts s ss)

@@ -4,9 +4,9 @@ use Rattle.std.specs.Prelude.{decimal}
 use Rattle.ax_tokens.specs.Stopping.{Texts}
 use Rattle.ax_format.specs.Shape.{NumberShape, FixedShape, Shape, EachShape}
 use Rattle.ax_format.specs.Tree.{FixedTree, element, group, KindTree, fixed, extended, counted, by_fx, explicit, compound, ValueTree, number, member_values, part_values, occurrences, content_octets, marked, ValuesTree, no_values, value_and}
-use Rattle.ax_text.proofs.Unique.{different, never_closes, small}
-use Rattle.ax_text.specs.Readable.{FixedReadable, Readable}
-use Rattle.ax_text.specs.ValueText.{opening, closing, hex_text, number_onto, fixed_onto, members_onto, parts_onto, each_onto, kind_onto, entries_onto}
+use Rattle.ax_text_form.proofs.Unique.{different, never_closes, small}
+use Rattle.ax_text_form.specs.Readable.{FixedReadable, Readable}
+use Rattle.ax_text_form.specs.ValueText.{opening, closing, hex_text, number_onto, fixed_onto, members_onto, parts_onto, each_onto, kind_onto, entries_onto}
 use Rattle.ax_block_reader.specs.Languages.{each_texts, FewerThan}
 use Rattle.ax_block_reader.proofs.Continuations.{heads, tails, no_text}
 use Rattle.ax_block_reader.proofs.Collecting.{Closes}

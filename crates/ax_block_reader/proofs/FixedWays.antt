@@ -17,14 +17,14 @@ use Rattle.ax_format.specs.declared.kind.Member.{Member, fold-roll-Member}
 use Rattle.ax_format.specs.declared.kind.Member.TheVariants.{Named, Spare, rolls-Named, rolls-Spare}
 use Rattle.ax_format.specs.declared.value.Value.{Value}
 use Rattle.ax_format.specs.declared.value.Value.TheVariants.{Number, Group as GroupOf}
-use Rattle.ax_text.specs.Readable.{FixedReadable, MemberReadable, MembersReadable}
-use Rattle.ax_text.specs.Slots.{MemberShape}
-use Rattle.ax_text.specs.ValueText.{opening, spare_word, number_onto, fixed_onto}
+use Rattle.ax_text_form.specs.Readable.{FixedReadable, MemberReadable, MembersReadable}
+use Rattle.ax_text_form.specs.Slots.{MemberShape}
+use Rattle.ax_text_form.specs.ValueText.{opening, spare_word, number_onto, fixed_onto}
 use Rattle.ax_block_reader.specs.Continuing.{Done, Spelled, IsRead}
 use Rattle.ax_block_reader.specs.Languages.{IsNumberText, fixed_texts, member_texts, members_texts}
 use Rattle.ax_block_reader.proofs.Continuations.{tails, no_text, word_read, lacks_there, Prefixed, prefix_lacks, prefix_read}
 use Rattle.ax_block_reader.proofs.Collecting.{prefix_is_read}
-use Rattle.ax_text.proofs.KindTrees.{element_tree, group_tree, named_tree, spare_tree}
+use Rattle.ax_text_form.proofs.KindTrees.{element_tree, group_tree, named_tree, spare_tree}
 
 -- ---- what is due
 

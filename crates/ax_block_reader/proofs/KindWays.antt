@@ -22,9 +22,9 @@ use Rattle.ax_format.specs.declared.kind.Slot.TheVariants.{Spare, Sub, rolls-Spa
 use Rattle.ax_format.specs.declared.value.Entry.{Entry}
 use Rattle.ax_format.specs.declared.value.Value.{Value}
 use Rattle.ax_format.specs.declared.value.Value.TheVariants as ValueOf
-use Rattle.ax_text.specs.Readable.{FixedReadable, MembersReadable, Readable, SlotReadable, SlotsReadable}
-use Rattle.ax_text.specs.Slots.{SlotShape}
-use Rattle.ax_text.specs.ValueText.{opening, closing, fixed_onto, kind_onto}
+use Rattle.ax_text_form.specs.Readable.{FixedReadable, MembersReadable, Readable, SlotReadable, SlotsReadable}
+use Rattle.ax_text_form.specs.Slots.{SlotShape}
+use Rattle.ax_text_form.specs.ValueText.{opening, closing, fixed_onto, kind_onto}
 use Rattle.ax_block_reader.specs.Continuing.{Spelled, IsRead}
 use Rattle.ax_block_reader.specs.Entries.{slot_texts, SlotNamed, IsNotNamed, IsNamedAt}
 use Rattle.ax_block_reader.specs.Languages.{fixed_texts, kind_texts, parts_texts, each_texts, FewerThan, SomeOf, entries_texts}

@@ -9,16 +9,16 @@ use Rattle.ax_format.specs.Shape.{MembersShape}
 use Rattle.ax_format.specs.Tree.{MemberTree, named, spare, MembersTree, no_members, member_and, ValueTree, ValuesTree, no_values, value_and}
 use Rattle.ax_format.specs.declared.kind.Member.{Member}
 use Rattle.ax_format.specs.declared.value.Value.{Value}
-use Rattle.ax_text.proofs.Printed.{from_place}
-use Rattle.ax_text.specs.Readable.{MemberReadable, MembersReadable}
-use Rattle.ax_text.specs.Slots.{MemberShape}
-use Rattle.ax_text.specs.ValueText.{closing, member_onto}
+use Rattle.ax_text_form.proofs.Printed.{from_place}
+use Rattle.ax_text_form.specs.Readable.{MemberReadable, MembersReadable}
+use Rattle.ax_text_form.specs.Slots.{MemberShape}
+use Rattle.ax_text_form.specs.ValueText.{closing, member_onto}
 use Rattle.ax_block_reader.specs.Continuing.{Continues, Spelled, IsRead}
 use Rattle.ax_block_reader.specs.Languages.{member_texts, members_texts}
 use Rattle.ax_block_reader.proofs.Continuations.{no_text, tails, same_read, same_front}
 use Rattle.ax_block_reader.proofs.Collecting.{Collects, none_collected, more_collected, all_collected, same_put, left_lacks, one_collected, one_lacks, Closes, closing_read}
 use Rattle.ax_block_reader.proofs.FixedWays.{members_due_texts}
-use Rattle.ax_text.proofs.Onto.{member_more}
+use Rattle.ax_text_form.proofs.Onto.{member_more}
 
 -- ---- values in front of others
 

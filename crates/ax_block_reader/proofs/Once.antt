@@ -10,12 +10,12 @@ use Rattle.ax_tokens.specs.Stopping.{Texts, texts_of}
 use Rattle.ax_tokens.proofs.Bad.{first_bad_once}
 use Rattle.ax_tokens.specs.PlainToken.{PlainToken}
 use Rattle.ax_tokens.specs.Printing.{placed}
-use Rattle.ax_text.proofs.BlocksOnce.{same_block}
-use Rattle.ax_text.specs.BlockText.{BlockText}
-use Rattle.ax_text.specs.Names.{IsNamed}
-use Rattle.ax_text.specs.Tokens.{TextOver, kind_of, BlockTokens}
+use Rattle.ax_text_form.proofs.BlocksOnce.{same_block}
+use Rattle.ax_text_form.specs.BlockText.{BlockText}
+use Rattle.ax_text_form.specs.Names.{IsNamed}
+use Rattle.ax_text_form.specs.Tokens.{TextOver, kind_of, BlockTokens}
 use Rattle.ax_block_reader.specs.BlockTexts.{block_texts, IsBlockText, canonical_length, Spells, IsTextOf, IsLongText, IsFault}
-use Rattle.ax_text.specs.CatalogueBlocks.{IsBlockOf}
+use Rattle.ax_text_form.specs.CatalogueBlocks.{IsBlockOf}
 use Rattle.ax_block_reader.specs.declared.error.TextError.{TextError}
 use Rattle.ax_block_reader.specs.declared.error.TextError.TheVariants.{BadToken, TooLong, OutOfMemory}
 

@@ -10,16 +10,16 @@ use Rattle.ax_format.specs.Shape.{MembersShape, PartsShape}
 use Rattle.ax_format.specs.Tree.{MembersTree, ValuesTree, ListsTree, no_lists, list_and}
 use Rattle.ax_format.specs.declared.kind.Part.{Part}
 use Rattle.ax_format.specs.declared.value.Value.{Value}
-use Rattle.ax_text.proofs.Printed.{from_place}
-use Rattle.ax_text.proofs.Unique.{different}
-use Rattle.ax_text.specs.Readable.{MembersReadable}
-use Rattle.ax_text.specs.ValueText.{opening, closing, part_word, members_onto, part_onto}
+use Rattle.ax_text_form.proofs.Printed.{from_place}
+use Rattle.ax_text_form.proofs.Unique.{different}
+use Rattle.ax_text_form.specs.Readable.{MembersReadable}
+use Rattle.ax_text_form.specs.ValueText.{opening, closing, part_word, members_onto, part_onto}
 use Rattle.ax_block_reader.specs.Continuing.{Continues, Spelled, IsRead, Gives}
 use Rattle.ax_block_reader.specs.Languages.{members_texts, braced_texts, part_texts, parts_texts, LaterParts}
 use Rattle.ax_block_reader.proofs.Continuations.{heads, tails, no_text, same_read, same_front, Prefixed, prefix_lacks}
 use Rattle.ax_block_reader.proofs.Collecting.{prefix_gives, Collects, more_collected, all_collected, same_put, left_lacks, one_collected, one_lacks, skip_collected, Closes, closing_read, closing_lacks, closing_cut}
 use Rattle.ax_block_reader.proofs.FixedWays.{members_due_texts}
-use Rattle.ax_text.proofs.Onto.{part_more}
+use Rattle.ax_text_form.proofs.Onto.{part_more}
 
 -- ---- a part
 

@@ -9,15 +9,15 @@ use Rattle.ax_format.specs.Plain.{record_tree, records_tree}
 use Rattle.ax_format.specs.Specification.{SpecTree, record_slots}
 use Rattle.ax_format.specs.Tree.{EntriesTree, no_entries}
 use Rattle.ax_format.specs.declared.record.Record.{Record}
-use Rattle.ax_text.proofs.Unique.{different}
-use Rattle.ax_text.specs.BlockText.{record_onto}
-use Rattle.ax_text.specs.ValueText.{opening, closing}
+use Rattle.ax_text_form.proofs.Unique.{different}
+use Rattle.ax_text_form.specs.BlockText.{record_onto}
+use Rattle.ax_text_form.specs.ValueText.{opening, closing}
 use Rattle.ax_block_reader.specs.Continuing.{Continues, Spelled, IsRead, Gives}
 use Rattle.ax_block_reader.specs.Records.{record_texts, SomeRecords, records_texts, braced_records_texts}
 use Rattle.ax_block_reader.proofs.Continuations.{heads, tails, no_text, same_read, same_front, Prefixed, prefix_lacks}
 use Rattle.ax_block_reader.proofs.Collecting.{prefix_gives, Collects, none_collected, more_collected, all_collected, same_put, left_lacks, one_collected, one_lacks, skip_collected, Closes, closing_read, closing_cut}
 use Rattle.ax_block_reader.proofs.EntryWays.{no_entries_fit}
-use Rattle.ax_text.proofs.Onto.{entries_more}
+use Rattle.ax_text_form.proofs.Onto.{entries_more}
 
 -- ---- records in front of others
 

@@ -17,11 +17,11 @@ use Rattle.ax_format.specs.declared.spec.Item.{Item}
 use Rattle.ax_format.specs.declared.spec.UapSlot.{UapSlot}
 use Rattle.ax_format.specs.declared.spec.UapSlot.TheVariants as Uap
 use Rattle.ax_format.specs.declared.value.Entry.{Entry}
-use Rattle.ax_text.proofs.Printed.{from_place}
-use Rattle.ax_text.proofs.Readables.{HasName, found_named}
-use Rattle.ax_text.specs.Readable.{Readable, SlotReadable}
-use Rattle.ax_text.specs.Slots.{SlotShape}
-use Rattle.ax_text.specs.ValueText.{opening, closing}
+use Rattle.ax_text_form.proofs.Printed.{from_place}
+use Rattle.ax_text_form.proofs.Readables.{HasName, found_named}
+use Rattle.ax_text_form.specs.Readable.{Readable, SlotReadable}
+use Rattle.ax_text_form.specs.Slots.{SlotShape}
+use Rattle.ax_text_form.specs.ValueText.{opening, closing}
 use Rattle.ax_block_reader.specs.Continuing.{Spelled, IsRead, Gives}
 use Rattle.ax_block_reader.specs.Entries.{slot_texts, SlotNamed, IsNotNamed, IsNamedAt}
 use Rattle.ax_block_reader.specs.Languages.{kind_texts, entries_texts}
@@ -30,7 +30,7 @@ use Rattle.ax_block_reader.proofs.Continuations.{lacks_there, Prefixed, prefix_l
 use Rattle.ax_block_reader.proofs.Collecting.{prefix_is_read, prefix_gives}
 use Rattle.ax_block_reader.proofs.EntryWays.{entries_due}
 use Rattle.ax_block_reader.proofs.KindWays.{slot_way, slot_is_read}
-use Rattle.ax_text.proofs.SlotTrees.{slot_has, item_there, name_there}
+use Rattle.ax_text_form.proofs.SlotTrees.{slot_has, item_there, name_there}
 
 -- ---- the slot of an item by its name
 

@@ -7,15 +7,15 @@ use Rattle.ax_format.specs.Plain.{value_tree, values_tree}
 use Rattle.ax_format.specs.Shape.{FixedShape, EachShape}
 use Rattle.ax_format.specs.Tree.{FixedTree, ValueTree, ValuesTree, no_values, value_and}
 use Rattle.ax_format.specs.declared.value.Value.{Value}
-use Rattle.ax_text.specs.Readable.{FixedReadable}
-use Rattle.ax_text.specs.ValueText.{closing, fixed_onto}
+use Rattle.ax_text_form.specs.Readable.{FixedReadable}
+use Rattle.ax_text_form.specs.ValueText.{closing, fixed_onto}
 use Rattle.ax_block_reader.specs.Continuing.{Continues, Spelled, IsRead}
 use Rattle.ax_block_reader.specs.Languages.{fixed_texts, each_texts, SomeOf}
 use Rattle.ax_block_reader.proofs.Continuations.{same_read, same_front}
 use Rattle.ax_block_reader.proofs.Collecting.{Collects, none_collected, more_collected, all_collected, same_put, left_lacks, one_collected, one_lacks, skip_collected, Closes, closing_read, closing_cut}
 use Rattle.ax_block_reader.proofs.Firsts.{fixed_first, each_closes}
 use Rattle.ax_block_reader.proofs.MemberWays.{values_before, before_none, before_more}
-use Rattle.ax_text.proofs.Onto.{fixed_more}
+use Rattle.ax_text_form.proofs.Onto.{fixed_more}
 
 module _ (f : FixedTree) where
   abbrev S : ValueTree → Type 0

@@ -19,7 +19,7 @@ use Rattle.ax_format.specs.declared.record.Block.TheVariants as BlockOf
 use Rattle.ax_format.specs.declared.record.Record.{Record}
 use Rattle.ax_format.specs.declared.spec.Spec.{Spec}
 use Rattle.ax_block_reader.specs.BlockTexts.{block_texts, IsBlockText, canonical_length, Spells}
-use Rattle.ax_text.specs.CatalogueBlocks.{IsBlockOf}
+use Rattle.ax_text_form.specs.CatalogueBlocks.{IsBlockOf}
 use Rattle.ax_block_reader.specs.Continuing.{Done, Continues, IsRead}
 use Rattle.ax_block_reader.proofs.Continuations.{no_text}
 

@@ -5,8 +5,8 @@ use Rattle.ax_format.specs.Blocks.{BlockTree, read_block, opaque_block}
 use Rattle.ax_format.specs.Paths.{three_digits}
 use Rattle.ax_format.specs.Specification.{SpecTree, spec_of}
 use Rattle.ax_format.specs.Tree.{EntriesTree}
-use Rattle.ax_text.specs.ValueText.{hex_text}
-use Rattle.ax_text.specs.CatalogueBlocks.{IsBlockOf}
+use Rattle.ax_text_form.specs.ValueText.{hex_text}
+use Rattle.ax_text_form.specs.CatalogueBlocks.{IsBlockOf}
 use Rattle.ax_block_reader.specs.Records.{braced_records_texts}
 use Rattle.ax_block_reader.specs.declared.blocks.BlockForm.{BlockForm}
 use Rattle.ax_block_reader.specs.declared.blocks.BlockForm.TheVariants.{Read, Opaque}

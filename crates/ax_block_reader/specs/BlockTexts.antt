@@ -8,8 +8,8 @@ use Rattle.ax_format.specs.Blocks.{BlockTree}
 use Rattle.ax_format.specs.CanonicalOctets.{canon_over, category_of}
 use Rattle.ax_format.specs.Lengths.{capped}
 use Rattle.ax_format.specs.Specification.{SpecTree, spec_of}
-use Rattle.ax_text.specs.CatalogueBlocks.{IsBlockOf}
-use Rattle.ax_text.specs.Tokens.{TextOver}
+use Rattle.ax_text_form.specs.CatalogueBlocks.{IsBlockOf}
+use Rattle.ax_text_form.specs.Tokens.{TextOver}
 use Rattle.ax_block_reader.specs.Continuing.{Spelled}
 use Rattle.ax_block_reader.specs.declared.error.TextError.{TextError}
 use Rattle.ax_block_reader.specs.declared.error.TextError.TheVariants.{BadToken, TooLong, OutOfMemory}

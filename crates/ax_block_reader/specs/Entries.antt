@@ -6,7 +6,7 @@ use Rattle.ax_format.specs.Characters.{IsName}
 use Rattle.ax_format.specs.Plain.{value_tree}
 use Rattle.ax_format.specs.Tree.{SlotTree, spare_slot, subitem, ValueTree}
 use Rattle.ax_format.specs.declared.value.Value.{Value}
-use Rattle.ax_text.specs.Slots.{SlotShape, slot_onto}
+use Rattle.ax_text_form.specs.Slots.{SlotShape, slot_onto}
 use Rattle.ax_block_reader.specs.Continuing.{Spelled, IsRead}
 
 -- the name of the slot and its value

@@ -8,7 +8,7 @@ use Rattle.ax_tokens.specs.declared.stopped.Stopped.{Stopped}
 use Rattle.ax_tokens.specs.declared.stopped.Stopped.TheVariants.{Bad, OutOfMemory}
 use Rattle.ax_format.specs.Shape.{PartsShape, EachShape}
 use Rattle.ax_format.specs.Tree.{FixedTree, MemberTree, MembersTree, KindTree, SlotsTree, ValueTree, ValuesTree, value_count, ListsTree, no_lists, list_and, EntriesTree}
-use Rattle.ax_text.specs.ValueText.{opening, closing, hex_text, fixed_onto, member_onto, members_onto, part_onto, parts_onto, each_onto, kind_onto, entries_onto}
+use Rattle.ax_text_form.specs.ValueText.{opening, closing, hex_text, fixed_onto, member_onto, members_onto, part_onto, parts_onto, each_onto, kind_onto, entries_onto}
 
 -- ---- single texts
 

@@ -8,7 +8,7 @@ use Rattle.ax_format.specs.Tree.{FixedTree, KindTree}
 use Rattle.ax_format.specs.declared.record.Record.{Record}
 use Rattle.ax_format.specs.declared.value.Entry.{Entry}
 use Rattle.ax_format.specs.declared.value.Value.{Value}
-use Rattle.ax_text.specs.ValueText.{kind_onto, fixed_onto}
+use Rattle.ax_text_form.specs.ValueText.{kind_onto, fixed_onto}
 use Rattle.ax_tokens.specs.Stopping.{Texts}
 use Rattle.ax_tokens.specs.declared.stopped.Stopped.{Stopped}
 use Rattle.ax_block_reader.specs.Continuing.{Gives}

@@ -5,8 +5,8 @@ use Rattle.ax_tokens.specs.Stopping.{Texts}
 use Rattle.ax_format.specs.Bodies.{RecordShape}
 use Rattle.ax_format.specs.Specification.{SpecTree, record_slots}
 use Rattle.ax_format.specs.Tree.{EntriesTree}
-use Rattle.ax_text.specs.BlockText.{record_onto, records_onto}
-use Rattle.ax_text.specs.ValueText.{opening, closing}
+use Rattle.ax_text_form.specs.BlockText.{record_onto, records_onto}
+use Rattle.ax_text_form.specs.ValueText.{opening, closing}
 use Rattle.ax_block_reader.specs.Languages.{entries_texts}
 
 abbrev pub braced_entries_texts : SpecTree → EntriesTree → Texts

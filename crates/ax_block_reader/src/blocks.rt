@@ -4,7 +4,7 @@ ghost use Rattle.ax_format.specs.Plain.{catalogue_tree, block_tree};
 ghost use Rattle.ax_tokens.specs.Stopping.{Stops};
 ghost use Rattle.ax_block_reader.specs.BlockForms.{HasKnown, HasLacked, ReadShape, OpaqueShape, after_block_word, after_opaque_word, IsForm};
 ghost use Rattle.ax_block_reader.specs.BlockTexts.{block_texts, IsBlockText};
-ghost use Rattle.ax_text.specs.CatalogueBlocks.{IsBlockOf};
+ghost use Rattle.ax_text_form.specs.CatalogueBlocks.{IsBlockOf};
 ghost use Rattle.ax_block_reader.specs.Continuing.{Gives};
 
 use crate::categories::{known_category, lacked_category, next_category};

@@ -8,7 +8,7 @@ ghost use Rattle.ax_tokens.specs.declared.stopped.Stopped.TheVariants.{Bad};
 ghost use Rattle.ax_block_reader.specs.BlockForms.{HasCategory, IsCategoryText, LacksCategory};
 
 use ax_format::Spec;
-use ax_text::category_of;
+use ax_text_form::category_of;
 use ax_tokens::{Reader, Stopped};
 use ax_uap::CatalogueItems;
 

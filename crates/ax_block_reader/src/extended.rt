@@ -3,7 +3,7 @@ ghost use Rattle.std.specs.Prelude.{◌≡◌, ◌<◌, ◌∷◌, length, map, 
 ghost use Rattle.ax_format.specs.Plain.{fixed_tree, members_tree, part_tree, values_tree, lists_tree};
 ghost use Rattle.ax_format.specs.Shape.{MembersShape, PartsShape};
 ghost use Rattle.std.specs.List.{AllByRecursion};
-ghost use Rattle.ax_text.specs.Readable.{FixedReadable, MembersReadable};
+ghost use Rattle.ax_text_form.specs.Readable.{FixedReadable, MembersReadable};
 ghost use Rattle.ax_block_reader.specs.Continuing.{Gives};
 ghost use Rattle.ax_block_reader.specs.Readings.{GivesSome};
 ghost use Rattle.ax_block_reader.specs.Languages.{braced_texts, part_texts, parts_texts};

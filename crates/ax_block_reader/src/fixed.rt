@@ -2,8 +2,8 @@
 ghost use Rattle.std.specs.Prelude.{◌≡◌, ◌<◌, length, OnOk};
 ghost use Rattle.ax_format.specs.Plain.{fixed_tree, member_tree, members_tree, value_tree, values_tree};
 ghost use Rattle.ax_format.specs.Shape.{FixedShape, MembersShape};
-ghost use Rattle.ax_text.specs.Readable.{FixedReadable, MemberReadable, MembersReadable};
-ghost use Rattle.ax_text.specs.Slots.{MemberShape};
+ghost use Rattle.ax_text_form.specs.Readable.{FixedReadable, MemberReadable, MembersReadable};
+ghost use Rattle.ax_text_form.specs.Slots.{MemberShape};
 ghost use Rattle.ax_block_reader.specs.Continuing.{Gives};
 ghost use Rattle.ax_block_reader.specs.Languages.{fixed_texts, member_texts, members_texts};
 

@@ -3,7 +3,7 @@ ghost use Rattle.std.specs.Prelude.{◌≡◌, ◌^◌, ◌<◌, ◌≤◌, leng
 ghost use Rattle.ax_format.specs.Plain.{kind_tree, slot_tree, slots_tree, value_tree, entries_tree};
 ghost use Rattle.ax_format.specs.Shape.{Shape, EntriesShape};
 ghost use Rattle.ax_format.specs.Widths.{counter_width};
-ghost use Rattle.ax_text.specs.Readable.{Readable, SlotReadable, SlotsReadable};
+ghost use Rattle.ax_text_form.specs.Readable.{Readable, SlotReadable, SlotsReadable};
 ghost use Rattle.ax_block_reader.specs.Continuing.{Gives};
 ghost use Rattle.ax_block_reader.specs.Languages.{kind_texts, entries_texts};
 ghost use Rattle.ax_block_reader.specs.Readings.{GivesFewerThan};

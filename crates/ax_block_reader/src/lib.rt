@@ -1,6 +1,6 @@
 //! Block texts read back: from a line's tokens to the block whose text they are.
 //!
-//! Which tokens a block's text has is the definition of `ax_text`, from which `block_text` prints too. Here are the
+//! Which tokens a block's text has is the definition of `ax_text_form`, from which `block_text` prints too. Here are the
 //! languages that it gives for each rule, and a reader of each that says where it stops.
 #![tactic(auto)]
 

@@ -5,14 +5,14 @@ ghost use Rattle.ax_bits.specs.Bits.{AreOctets};
 ghost use Rattle.ax_format.specs.Plain.{value_tree};
 ghost use Rattle.ax_format.specs.Shape.{Shape};
 ghost use Rattle.ax_format.specs.Tree.{explicit};
-ghost use Rattle.ax_text.specs.ValueText.{hex_text};
+ghost use Rattle.ax_text_form.specs.ValueText.{hex_text};
 ghost use Rattle.ax_tokens.specs.Octets.{quote};
 ghost use Rattle.ax_tokens.specs.declared.stopped.Stopped.TheVariants.{Bad, OutOfMemory};
 ghost use Rattle.ax_block_reader.specs.Continuing.{Gives};
 ghost use Rattle.ax_block_reader.specs.Languages.{kind_texts, IsNoDigits, IsNoHexText, IsContent, HexAt};
 
 use ax_format::{Octets, Value};
-use ax_text::unquoted;
+use ax_text_form::unquoted;
 use ax_tokens::{Reader, Stopped};
 use hex::FromHexError;
 use std::alloc::{AllocError, Global};

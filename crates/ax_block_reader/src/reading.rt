@@ -3,7 +3,7 @@ ghost use Rattle.std.specs.Prelude.{◌≡◌, IfOk, IfErr};
 ghost use Rattle.ax_format.specs.Lengths.{capped};
 ghost use Rattle.ax_format.specs.Plain.{catalogue_tree, block_tree};
 ghost use Rattle.ax_block_reader.specs.BlockTexts.{canonical_length, Spells, IsTextOf, IsFault, IsBad};
-ghost use Rattle.ax_text.specs.CatalogueBlocks.{IsBlockOf};
+ghost use Rattle.ax_text_form.specs.CatalogueBlocks.{IsBlockOf};
 
 use crate::blocks::block;
 use crate::catalogue_items::items_of;

@@ -5,7 +5,7 @@ ghost use Rattle.ax_format.specs.Plain.{item_tree, kind_tree, spec_tree};
 ghost use Rattle.ax_format.specs.Specification.{uap_slot, record_slots};
 ghost use Rattle.ax_format.specs.Tree.{subitem};
 ghost use Rattle.ax_tokens.specs.declared.stopped.Stopped.TheVariants.{Bad};
-ghost use Rattle.ax_text.specs.Readable.{SlotReadable, SlotsReadable};
+ghost use Rattle.ax_text_form.specs.Readable.{SlotReadable, SlotsReadable};
 ghost use Rattle.ax_block_reader.specs.Entries.{SlotNamed, IsNotNamed, GivesSlot};
 ghost use Rattle.ax_block_reader.specs.Readings.{GivesEntries, GivesBracedEntries, GivesRecord, GivesRecords, GivesBracedRecords};
 

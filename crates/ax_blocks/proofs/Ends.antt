@@ -10,7 +10,7 @@ use Rattle.ax_blocks.specs.Taking.{Took, PartTaken, PartPastRoom, PartCut, PartM
 use Rattle.ax_format.specs.Blocks.{IsFramed}
 use Rattle.ax_format.specs.Framing.{RawTree, input_too_long, ends_in_block, len_of, block, end}
 use Rattle.ax_format.proofs.Framings.{just_next}
-use Rattle.ax_blocks.specs.declared.reader.Ended.{Ended}
+use Rattle.ax_blocks.specs.declared.reader.EndedBlocks.{EndedBlocks}
 use Rattle.ax_format.specs.declared.record.RawBlock.{RawBlock}
 use Rattle.ax_endpoints.specs.Told.{with_front, IsAtEnd}
 use Rattle.ax_endpoints.proofs.Ends.{with_front-append}
@@ -207,5 +207,5 @@ pub seen_block : (old seen : ReaderState) (left left' : Option (List ℕ)) (take
 seen_block old seen left left' taken taken' raw is h = let of : ReaderState → Type 0 = λ r. GivesBlock r.limit r.given left left' taken taken' raw in subst of is h
 
 -- it had kept no answer
-pub none_kept : (P : Ended → Type 0) (old seen : ReaderState) → seen ≡ old → IsOpen seen → IfSome old.ended P
+pub none_kept : (P : EndedBlocks → Type 0) (old seen : ReaderState) → seen ≡ old → IsOpen seen → IfSome old.ended P
 none_kept P old seen is is_open = let e : None ≡ old.ended = sym is_open ∙ ap (λ r. r.ended) is in subst (λ k. IfSome k P) e tt

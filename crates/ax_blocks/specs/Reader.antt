@@ -3,8 +3,8 @@ use Rattle.std.specs.Prelude.{◌≡◌, ℕ, ◌+◌, ◌-◌, ◌/◌, ◌≤�
 use Rattle.ax_blocks.specs.Taking.{Took, IsUnfinished}
 use Rattle.ax_blocks.specs.declared.next_error.NextError.{NextError}
 use Rattle.ax_blocks.specs.declared.next_error.NextError.TheVariants.{BadLen, EndsInHeader, EndsInBlock, InputTooLong, ReadFault}
-use Rattle.ax_blocks.specs.declared.reader.Ended.{Ended}
-use Rattle.ax_blocks.specs.declared.reader.Ended.TheVariants.{EndOfInput, Refused}
+use Rattle.ax_blocks.specs.declared.reader.EndedBlocks.{EndedBlocks}
+use Rattle.ax_blocks.specs.declared.reader.EndedBlocks.TheVariants.{EndOfInput, Refused}
 use Rattle.ax_format.specs.Blocks.{IsFramed}
 use Rattle.ax_format.specs.Framing.{RawTree, FramingEnd, whole, input_too_long, ends_in_header, bad_len, ends_in_block, len_of, block, end, IsJustNext}
 use Rattle.ax_format.specs.declared.record.RawBlock.{RawBlock}
@@ -15,7 +15,7 @@ use Rattle.ax_endpoints.specs.Told.{IsAtEnd}
 pub record ReaderState : Type 0 where
   pub limit : ℕ
   pub given : ℕ
-  pub ended : Option Ended
+  pub ended : Option EndedBlocks
 
 abbrev pub IsOpen : ReaderState → Type 0
 IsOpen reader = reader.ended ≡ None
@@ -55,7 +55,7 @@ block_octets (Ok None) = 0
 block_octets (Err e) = 0
 
 -- what the reader answers from now on
-abbrev pub ended_by : {A : Type 0} → Result (Option A) NextError → Option Ended
+abbrev pub ended_by : {A : Type 0} → Result (Option A) NextError → Option EndedBlocks
 ended_by (Ok (Some raw)) = None
 ended_by (Ok None) = Some EndOfInput
 ended_by (Err e) = Some (Refused e)

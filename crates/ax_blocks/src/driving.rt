@@ -13,7 +13,7 @@ use ax_endpoints::{Sink, Source};
 
 /// Reads the input to its end, block by block: each is judged as a whole, then its lines are written on the report, then
 /// its octets on the output. It takes no memory but the work's.
-pub fn drive<W: BlockWork, S: Source, K: Sink, R: Sink>(
+pub fn drive_blocks<W: BlockWork, S: Source, K: Sink, R: Sink>(
     reader: &mut BlockReader,
     work: &mut W,
     source: &mut S,

@@ -15,7 +15,7 @@ mod reader;
 mod stream;
 mod work;
 
-pub use driving::drive;
+pub use driving::drive_blocks;
 pub use end::{Cause, InputFault, StreamEnd};
 pub use line::write_fault_line;
 pub use making::BlockStop;

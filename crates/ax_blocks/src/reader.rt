@@ -12,7 +12,7 @@ use std::marker::Model;
 
 /// How a reader has ended, which it answers from then on.
 #[derive(Clone, Copy)]
-pub enum Ended {
+pub enum EndedBlocks {
     EndOfInput,
     Refused(NextError),
 }
@@ -23,7 +23,7 @@ pub struct BlockReader {
     buffer: Vec<u8>,
     limit: u64,
     given: u64,
-    ended: Option<Ended>,
+    ended: Option<EndedBlocks>,
 }
 
 impl Model for BlockReader {
@@ -95,8 +95,8 @@ impl BlockReader {
         ensures quiet { UnlessReadFault result (S.faults source.new ≡ S.faults source.old) }
     {
         match self.ended {
-            Some(Ended::EndOfInput) => return Ok(None),
-            Some(Ended::Refused(error)) => return Err(error),
+            Some(EndedBlocks::EndOfInput) => return Ok(None),
+            Some(EndedBlocks::Refused(error)) => return Err(error),
             None => {}
         }
         match next_length(source, &mut self.buffer, self.limit, self.given) {
@@ -105,11 +105,11 @@ impl BlockReader {
                 Ok(Some(raw_block(&self.buffer, length)))
             }
             Ok(None) => {
-                self.ended = Some(Ended::EndOfInput);
+                self.ended = Some(EndedBlocks::EndOfInput);
                 Ok(None)
             }
             Err(error) => {
-                self.ended = Some(Ended::Refused(error));
+                self.ended = Some(EndedBlocks::Refused(error));
                 Err(error)
             }
         }

@@ -5,7 +5,7 @@ ghost use Rattle.ax_blocks.specs.Ending.{longest_input};
 ghost use Rattle.ax_blocks.specs.Streams.{StreamRuns, IsIdle};
 ghost use Rattle.ax_blocks.specs.declared.end.StreamEnd.TheVariants.{OutOfMemory};
 
-use crate::driving::drive;
+use crate::driving::drive_blocks;
 use crate::end::StreamEnd;
 use crate::reader::BlockReader;
 use crate::work::BlockWork;
@@ -28,5 +28,5 @@ pub fn run_blocks<W: BlockWork, S: Source, K: Sink, R: Sink>(
     let Ok(mut reader) = BlockReader::new(alloc, LONGEST_INPUT) else {
         return StreamEnd::OutOfMemory;
     };
-    drive(&mut reader, work, source, out, report)
+    drive_blocks(&mut reader, work, source, out, report)
 }

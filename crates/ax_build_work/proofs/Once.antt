@@ -3,7 +3,7 @@ use Rattle.std.proofs.Common.{◌≡◌, ℕ, ◌<◌, ◌≤◌, List, [], ◌�
 use Rattle.std.specs.List.{AllByRecursion}
 use Rattle.ax_block_reader.proofs.Once.{printed_tokens}
 use Rattle.ax_block_reader.specs.BlockTexts.{IsBlockText, canonical_length, Spells, IsLongText}
-use Rattle.ax_text.specs.CatalogueBlocks.{IsBlockOf}
+use Rattle.ax_text_form.specs.CatalogueBlocks.{IsBlockOf}
 use Rattle.ax_build_work.specs.BuildCommand.{deepest, IsBuiltOf, IsRefusedFor, AnswersSome, AnswersTokens, AnswersLine, by_tokens, by_octet, by_brace, build_command}
 use Rattle.ax_lines.specs.declared.text_fault.TextFault.{TextFault}
 use Rattle.ax_lines.specs.declared.text_fault.TextFault.TheVariants.{LineTooLong, BadByte, TooDeep, BadToken, TooLong}
@@ -13,9 +13,9 @@ use Rattle.ax_format.specs.CanonicalOctets.{canon_block, canon_over, category_of
 use Rattle.ax_format.specs.Flaws.{NoFlaw}
 use Rattle.ax_format.specs.Lengths.{capped}
 use Rattle.ax_format.specs.Specification.{SpecTree, spec_of}
-use Rattle.ax_text.proofs.BlocksOnce.{same_block}
-use Rattle.ax_text.specs.Names.{IsNamed}
-use Rattle.ax_text.specs.Tokens.{BlockTokens}
+use Rattle.ax_text_form.proofs.BlocksOnce.{same_block}
+use Rattle.ax_text_form.specs.Names.{IsNamed}
+use Rattle.ax_text_form.specs.Tokens.{BlockTokens}
 use Rattle.ax_tokens.proofs.Bad.{first_bad_once}
 use Rattle.ax_tokens.specs.Stopping.{texts_of}
 use Rattle.ax_tokens.proofs.Once.{tokens_once, no_bad_byte, none_too_deep, bad_byte_once, too_deep_once, one_kind}

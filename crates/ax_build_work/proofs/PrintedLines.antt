@@ -3,20 +3,20 @@ use Rattle.std.proofs.Common.{◌≡◌, ℕ, ◌≤◌, List, [], ◌∷◌, �
 use Rattle.ax_bits.specs.Bits.{bits, AreOctets}
 use Rattle.ax_block_reader.proofs.Once.{printed_texts}
 use Rattle.ax_block_reader.specs.BlockTexts.{canonical_length}
-use Rattle.ax_text.specs.CatalogueBlocks.{IsBlockOf}
+use Rattle.ax_text_form.specs.CatalogueBlocks.{IsBlockOf}
 use Rattle.ax_build_work.specs.BuildCommand.{AnswersLine, by_tokens, deepest}
 use Rattle.ax_lines.specs.Commands.{gives}
 use Rattle.ax_format.proofs.CanonFramed.{length-framed}
 use Rattle.ax_format.specs.Blocks.{BlockTree, read_block, opaque_block}
 use Rattle.ax_format.specs.CanonicalOctets.{canon_block, canon_over, category_of, framed}
 use Rattle.ax_format.specs.Specification.{SpecTree, spec_of}
-use Rattle.ax_text.specs.BlockText.{BlockText}
+use Rattle.ax_text_form.specs.BlockText.{BlockText}
 use Rattle.ax_tokens.specs.Stopping.{texts_of}
 use Rattle.ax_tokens.specs.Lexing.{AreTokensOf}
 use Rattle.ax_tokens.specs.PlainToken.{PlainToken}
 use Rattle.ax_printed_lines.specs.Laid.{laid}
 use Rattle.ax_printed_lines.specs.Printed.{IsPrinted}
-use Rattle.ax_printed_lines.specs.declared.laid.Laid.{Laid}
+use Rattle.ax_printed_lines.specs.declared.laid.LaidBits.{LaidBits}
 use Rattle.ax_build_work.proofs.Once.{over_known}
 
 some_text : (spec : SpecTree) (block : BlockTree) → BlockText spec block ≡ [] → ⊥
@@ -34,7 +34,7 @@ tokens_answered catalogue spec block line (token ∷ tokens) known of within lex
       canonical = sym (ap (λ o. canon_over o block) known ∙ over_known spec block);
     })
 
-pub printed_answered : (catalogue : List SpecTree) (line : List ℕ) (category : ℕ) (octets : List ℕ) (before after : Laid) → IsPrinted catalogue line category before after → laid before ≡ [] → bits octets ≡ laid after → AreOctets octets → length octets ≤ 65532
+pub printed_answered : (catalogue : List SpecTree) (line : List ℕ) (category : ℕ) (octets : List ℕ) (before after : LaidBits) → IsPrinted catalogue line category before after → laid before ≡ [] → bits octets ≡ laid after → AreOctets octets → length octets ≤ 65532
     → AnswersLine catalogue line (gives (framed category octets))
 printed_answered catalogue line category octets before after p none is each few =
     let same : framed category octets ≡ canon_block p.spec p.block = p.canonical octets each (is ∙ p.lays ∙ ap (λ w. w ++ p.body) none) in

@@ -1,7 +1,7 @@
 //! From a line to the octets of its block.
 ghost use Rattle.std.specs.Prelude.{◌≡◌, ◌≤◌, ◌^◌, length, IfOk, IfErr, MatchOption};
 ghost use Rattle.ax_block_reader.specs.BlockTexts.{canonical_length};
-ghost use Rattle.ax_text.specs.CatalogueBlocks.{IsBlockOf};
+ghost use Rattle.ax_text_form.specs.CatalogueBlocks.{IsBlockOf};
 ghost use Rattle.ax_build_work.specs.BuildCommand.{IsBuiltOf, AnswersLine};
 ghost use Rattle.ax_build_work.specs.Stops.{NotBuilt, StopsLine};
 ghost use Rattle.ax_lines.specs.Commands.{gives, nothing};
@@ -16,7 +16,7 @@ use crate::opaque::opaque_block;
 use crate::printed::printed_octets;
 use ax_block_reader::read_block_over;
 use ax_format::Block;
-use ax_text_views::Tables;
+use ax_text_lines::PrintedUaps;
 use ax_tokens::{Tokens, tokens};
 use ax_uap::CatalogueItems;
 use ax_values::encode_of_length;
@@ -66,7 +66,7 @@ fn built(
 pub(crate) fn line_octets(
     alloc: Global,
     items: &CatalogueItems<'_>,
-    tables: &Tables<'_>,
+    tables: &PrintedUaps<'_>,
     line: &[u8],
     room: &mut [u8],
 ) -> Result<Option<Vec<u8>>, BuildStop>

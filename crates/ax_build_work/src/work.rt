@@ -14,7 +14,7 @@ use ax_check::Catalogue;
 use ax_endpoints::{Sink, Source};
 use ax_lines::{LineStop, LineWork, LinesEnd, TextFault, run_lines};
 use ax_lists::zeros;
-use ax_text_views::{Tables, tables_of};
+use ax_text_lines::{PrintedUaps, tables_of};
 use ax_uap::CatalogueItems;
 use std::alloc::Global;
 
@@ -28,7 +28,7 @@ struct BuildWork<'c> {
     alloc: Global,
     items: CatalogueItems<'c>,
     /// What lines are read by whose spacing is the usual one.
-    tables: Tables<'c>,
+    tables: PrintedUaps<'c>,
     octets: Vec<u8>,
     /// Where the body of a block is laid while its line is read.
     room: Vec<u8>,

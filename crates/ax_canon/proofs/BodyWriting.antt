@@ -25,7 +25,7 @@ use Rattle.ax_codec.specs.Table.{record_kind_at}
 use Rattle.ax_codec.specs.declared.codec.Codec.{Codec}
 use Rattle.ax_fspec.proofs.Exact.{spelled_at, fault_at}
 use Rattle.ax_fspec.specs.Reading.{Gets, FailsAt, kind_read}
-use Rattle.ax_view.proofs.BodySteps.{fails_of, one_more, canon_more, record_value, some_records, record_forwards}
+use Rattle.ax_walk.proofs.BodySteps.{fails_of, one_more, canon_more, record_value, some_records, record_forwards}
 
 pub gets_of : (codec : Codec) (spec : SpecTree) (body : List ℕ) (at end : ℕ) (v : ValueTree) → StandsFor codec spec → Gets (kind_read (record_kind_at codec.nodes codec.slots) body at) body at end v → Gets (kind_read (record_kind spec) body at) body at end v
 unfolding kind_read

@@ -15,7 +15,7 @@ use Rattle.ax_blocks.specs.declared.work.WorkStop.{WorkStop}
 use Rattle.ax_blocks.specs.declared.work.WorkStop.TheVariants.{Fault}
 use Rattle.ax_codec.specs.Standing.{StandForEach, codec_of}
 use Rattle.ax_codec.specs.declared.codec.Codec.{Codec}
-use Rattle.ax_view.specs.Views.{SpellsSome, FailsThere}
+use Rattle.ax_walk.specs.Views.{SpellsSome, FailsThere}
 use Rattle.ax_canon.proofs.CodecsOf.{stands_there, none_there}
 use Rattle.ax_canon.specs.Laid.{LaysCanonical}
 

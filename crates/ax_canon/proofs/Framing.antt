@@ -11,7 +11,7 @@ use Rattle.ax_format.specs.Blocks.{read_block}
 use Rattle.ax_format.specs.Bodies.{CanonBody}
 use Rattle.ax_format.specs.CanonicalOctets.{canon_block, octets_of, framed}
 use Rattle.ax_codec.specs.declared.codec.Codec.{Codec}
-use Rattle.ax_view.specs.Views.{IsLeast}
+use Rattle.ax_walk.specs.Views.{IsLeast}
 
 pub octets_long : (m : ℕ) (b : List ℕ) → length b ≡ 8 * m → AreBits b → length (octets_of b) ≡ m
 octets_long m b l bit = omega (arith, length-bits (octets_of b), ap length (bits-octets_of m b l bit))

@@ -18,8 +18,8 @@ use Rattle.ax_codec.specs.Table.{kind_at}
 use Rattle.ax_codec.specs.declared.node.Node.{Node}
 use Rattle.ax_fspec.proofs.Continuing.{gets_after, fails_after}
 use Rattle.ax_fspec.specs.Reading.{Gets, FailsAt, Continues, kind_read, entries_at}
-use Rattle.ax_view.proofs.MarkedSteps.{NextMarked, no_entries_left, along_none}
-use Rattle.ax_view.specs.Walking.{along}
+use Rattle.ax_walk.proofs.MarkedSteps.{NextMarked, no_entries_left, along_none}
+use Rattle.ax_walk.specs.Walking.{along}
 
 -- ---- fronts
 

@@ -16,12 +16,12 @@ use Rattle.ax_codec.specs.Meaning.{meanings, linked_slots}
 use Rattle.ax_codec.specs.Table.{SlotLinksWithin, kind_at, record_kind_at}
 use Rattle.ax_codec.specs.declared.node.Node.{Node}
 use Rattle.ax_codec.specs.declared.node.Node.TheVariants as Of
-use Rattle.ax_view.proofs.NodeKinds.{is_element, is_group, is_part, is_extended, is_counted, counted_link, is_by_fx, is_explicit, is_compound, compound_links, compound_mask}
-use Rattle.ax_view.specs.Plain.{IsPlain}
-use Rattle.ax_view.proofs.Spelled.{leaf_canonical}
-use Rattle.ax_view.specs.Shown.{item_kind, item_value}
-use Rattle.ax_view.specs.Values.{IsAll, IsOne, IsItemOf, ItemInBounds, value_in, value_read}
-use Rattle.ax_view.specs.declared.item.ItemView.{ItemView}
+use Rattle.ax_walk.proofs.NodeKinds.{is_element, is_group, is_part, is_extended, is_counted, counted_link, is_by_fx, is_explicit, is_compound, compound_links, compound_mask}
+use Rattle.ax_walk.specs.Plain.{IsPlain}
+use Rattle.ax_walk.proofs.Spelled.{leaf_canonical}
+use Rattle.ax_walk.specs.Shown.{item_kind, item_value}
+use Rattle.ax_walk.specs.Values.{IsAll, IsOne, IsItemOf, ItemInBounds, value_in, value_read}
+use Rattle.ax_walk.specs.declared.item.ItemView.{ItemView}
 
 -- what is written of all the octets is the spelling of their value
 pub rewritten : (k : KindTree) (octets : List ℕ) (end : ℕ) (old new : Out) → IsOne k octets → Rewrites (canon k) (kind_read k octets 0) octets 0 end old new → Appends old new (canon k (value_in k octets))

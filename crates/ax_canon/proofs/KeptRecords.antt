@@ -30,14 +30,14 @@ use Rattle.ax_codec.specs.Table.{record_kind_at}
 use Rattle.ax_codec.specs.declared.codec.Codec.{Codec}
 use Rattle.ax_fspec.proofs.Exact.{spelled_at, fault_at}
 use Rattle.ax_fspec.specs.Reading.{Gets, FailsAt, kind_read}
-use Rattle.ax_view.proofs.BodySteps.{fails_of, one_more, canon_more, record_value, some_records, record_forwards}
-use Rattle.ax_view.proofs.Found.{read_all}
-use Rattle.ax_view.proofs.Spelled.{value_spelled}
-use Rattle.ax_view.specs.Noted.{canon_in}
-use Rattle.ax_view.specs.RecordsAt.{IsRecordAt}
-use Rattle.ax_view.specs.Values.{IsRecord, value_read, value_in}
-use Rattle.ax_view.specs.Views.{SpellsSome, FailsThere}
-use Rattle.ax_view.specs.declared.record.RecordView.{RecordView}
+use Rattle.ax_walk.proofs.BodySteps.{fails_of, one_more, canon_more, record_value, some_records, record_forwards}
+use Rattle.ax_walk.proofs.Found.{read_all}
+use Rattle.ax_walk.proofs.Spelled.{value_spelled}
+use Rattle.ax_walk.specs.Noted.{canon_in}
+use Rattle.ax_walk.specs.RecordsAt.{IsRecordAt}
+use Rattle.ax_walk.specs.Values.{IsRecord, value_read, value_in}
+use Rattle.ax_walk.specs.Views.{SpellsSome, FailsThere}
+use Rattle.ax_walk.specs.declared.record.RecordView.{RecordView}
 
 -- ---- one record
 

@@ -33,12 +33,12 @@ use Rattle.ax_fspec.proofs.Continuing.{gets_after, fails_after}
 use Rattle.ax_fspec.proofs.Counting.{front_count, counted_none}
 use Rattle.ax_fspec.proofs.Marking.{field_read, marks_bits}
 use Rattle.ax_fspec.specs.Reading.{Gets, FailsAt, Continues, IsCount, IsMaskOf, kind_read, entries_at}
-use Rattle.ax_view.proofs.Compounds.{marks_clear}
-use Rattle.ax_view.proofs.FieldSteps.{along_is, spelled}
-use Rattle.ax_view.proofs.CountedSteps.{each_count}
-use Rattle.ax_view.proofs.Plain.{plain_again}
-use Rattle.ax_view.specs.Walking.{Walks, along}
-use Rattle.ax_view.specs.Plain.{IsPlain}
+use Rattle.ax_walk.proofs.Compounds.{marks_clear}
+use Rattle.ax_walk.proofs.FieldSteps.{along_is, spelled}
+use Rattle.ax_walk.proofs.CountedSteps.{each_count}
+use Rattle.ax_walk.proofs.Plain.{plain_again}
+use Rattle.ax_walk.specs.Walking.{Walks, along}
+use Rattle.ax_walk.specs.Plain.{IsPlain}
 
 -- ---- copied whole
 

@@ -7,7 +7,7 @@ use Rattle.ax_format.specs.Reader.{Read}
 use Rattle.ax_format.specs.Tree.{KindTree, SlotsTree}
 use Rattle.ax_format.specs.declared.fault.BodyFault.{BodyFault}
 use Rattle.ax_fspec.specs.Reading.{Gets, FailsAt, kind_read, entries_at}
-use Rattle.ax_view.specs.Walking.{along}
+use Rattle.ax_walk.specs.Walking.{along}
 
 -- what is read from octet `at` up to octet `end` is written by the rule, or nothing can be read there; never more octets are
 -- written than were read

@@ -2,12 +2,12 @@
 ghost use Rattle.std.specs.Prelude.{◌≡◌, ◌*◌, ◌≤◌, false, length};
 ghost use Rattle.ax_bits.specs.Out.{room, Appends};
 ghost use Rattle.ax_format.specs.Canonical.{canon};
-ghost use Rattle.ax_view.specs.Shown.{item_kind, item_value};
+ghost use Rattle.ax_walk.specs.Shown.{item_kind, item_value};
 
 use crate::rewrite::{rewrite_compound, rewrite_counted};
 use ax_bits::Out;
 use ax_codec::{Codec, Node};
-use ax_view::ItemView;
+use ax_walk::ItemView;
 
 /// Appends the canonical spelling of the value of an item, which was found under that codec. An occurrence by FX is no such
 /// item.

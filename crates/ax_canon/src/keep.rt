@@ -2,9 +2,9 @@
 ghost use Rattle.std.specs.Prelude.{◌≡◌, Bool, true};
 ghost use Rattle.std.specs.Borrow.{Bor};
 ghost use Rattle.std.specs.Fn.{FnReturnsAt};
-ghost use Rattle.ax_view.specs.declared.record.RecordView.{RecordView};
+ghost use Rattle.ax_walk.specs.declared.record.RecordView.{RecordView};
 
-use ax_view::RecordView;
+use ax_walk::RecordView;
 
 /// What decides of each record whether it is kept. It may remember what it found of those before.
 pub trait Keep {

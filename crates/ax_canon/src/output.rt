@@ -3,7 +3,7 @@ ghost use Rattle.std.specs.Prelude.{◌≡◌, ◌+◌, ◌*◌, ◌≤◌, leng
 ghost use Rattle.ax_bits.specs.Bits.{bits, AreOctets};
 ghost use Rattle.ax_format.specs.CanonicalOctets.{framed};
 ghost use Rattle.ax_format.specs.Sizes.{longest_block, longest_body};
-ghost use Rattle.ax_view.specs.Views.{FailsThere, SpellsSome};
+ghost use Rattle.ax_walk.specs.Views.{FailsThere, SpellsSome};
 ghost use Rattle.ax_canon.specs.Laid.{LaysBits, LaysCanonical};
 
 use crate::block::{canonical, scan_canonical};
@@ -12,7 +12,7 @@ use ax_codec::Codec;
 use ax_format::{BodyFault, RawBlock};
 use ax_lists::zeros;
 use ax_values::write_opaque;
-use ax_view::BlockView;
+use ax_walk::BlockView;
 use std::alloc::{AllocError, Global};
 
 /// The most octets of a data block.

@@ -12,14 +12,14 @@ ghost use Rattle.ax_format.specs.Tree as Tree;
 ghost use Rattle.ax_codec.specs.Meaning.{meanings, linked_slots};
 ghost use Rattle.ax_codec.specs.Table.{IsTable, SlotLinksWithin, kind_at, record_kind_at};
 ghost use Rattle.ax_fspec.specs.Reading.{IsMaskOf};
-ghost use Rattle.ax_view.specs.Plain.{IsPlain};
-ghost use Rattle.ax_view.specs.Rows.{tree_of};
+ghost use Rattle.ax_walk.specs.Plain.{IsPlain};
+ghost use Rattle.ax_walk.specs.Rows.{tree_of};
 
 use ax_bits::Out;
 use ax_codec::{Codec, Node};
 use ax_format::Counter;
 use ax_fspec::{Presence, SlotMask, count_at, read_presence, write_presence};
-use ax_view::{Notes, items_by_rows, walk, walk_record};
+use ax_walk::{Notes, items_by_rows, walk, walk_record};
 
 /// Appends the canonical spelling of the record at octet `at`. Answers the octet after it.
 pub(crate) fn rewrite_record(codec: &Codec, body: &[u8], at: u32, out: &mut Out<'_>) -> u32

@@ -17,10 +17,10 @@ use Rattle.ax_codec.proofs.BareKinds.{bare_read, stands_record}
 use Rattle.ax_codec.specs.Standing.{StandsFor}
 use Rattle.ax_codec.specs.Table.{record_kind_at}
 use Rattle.ax_codec.specs.declared.codec.Codec.{Codec}
-use Rattle.ax_view.specs.Shown.{item_value}
-use Rattle.ax_view.specs.Values.{value_in, value_read, entries_in}
-use Rattle.ax_view.specs.Views.{IsRecordOf, SpellEach}
-use Rattle.ax_view.specs.declared.item.ItemView.{ItemView}
+use Rattle.ax_walk.specs.Shown.{item_value}
+use Rattle.ax_walk.specs.Values.{value_in, value_read, entries_in}
+use Rattle.ax_walk.specs.Views.{IsRecordOf, SpellEach}
+use Rattle.ax_walk.specs.declared.item.ItemView.{ItemView}
 
 -- ---- slots
 

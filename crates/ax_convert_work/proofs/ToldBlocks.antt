@@ -16,7 +16,7 @@ use Rattle.ax_format.specs.Specification.{SpecTree}
 use Rattle.ax_format.specs.Tree.{EntriesTree}
 use Rattle.ax_format.specs.declared.fault.BodyFault.{BodyFault}
 use Rattle.ax_rescale.specs.Converts.{converting_slots, some_stands}
-use Rattle.ax_view.specs.Views.{FailsThere}
+use Rattle.ax_walk.specs.Views.{FailsThere}
 
 -- ---- the octets of a block
 

@@ -16,7 +16,7 @@ use ax_endpoints::Sink;
 use ax_format::RawBlock;
 use ax_migrate_views::{MigrateViews, Migrator};
 use ax_relation::Relation;
-use ax_view::scan;
+use ax_walk::scan;
 use std::alloc::{AllocError, Global};
 
 /// `convert` from one edition to another. A block in which nothing may be converted is migrated, as its view; of any other a tree

@@ -2,9 +2,9 @@
 ghost use Rattle.std.specs.Prelude.{◌≡◌};
 ghost use Rattle.ax_convert_work.specs.Standing.{SomeStands};
 ghost use Rattle.ax_rescale.specs.Converts.{stands_in};
-ghost use Rattle.ax_view.specs.Shown.{record_entries};
+ghost use Rattle.ax_walk.specs.Shown.{record_entries};
 
-use ax_view::{BlockView, RecordView};
+use ax_walk::{BlockView, RecordView};
 
 /// Whether a value stands in one of the slots of a record.
 #[tactic(auto, using(crate::proofs::StandingValues::in_slots))]

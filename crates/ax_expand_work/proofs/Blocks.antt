@@ -5,7 +5,7 @@ use Rattle.ax_bits.specs.Bits.{bits}
 use Rattle.ax_expand.specs.Expansion.{ExpansionTree}
 use Rattle.ax_expand_work.specs.ExpandCommand.{expand_command, re_lines, unread_lines}
 use Rattle.ax_expand_work.specs.Gathering.{GathersBlock}
-use Rattle.ax_expand_work.specs.declared.contents.Lines.{Lines}
+use Rattle.ax_expand_work.specs.declared.contents.ContentLines.{ContentLines}
 use Rattle.ax_format.specs.Blocks.{read_block, opaque_block}
 use Rattle.ax_format.specs.Bodies.{SpellsBody}
 use Rattle.ax_format.specs.CanonicalOctets.{framed}
@@ -24,7 +24,7 @@ use Rattle.ax_blocks.specs.declared.work.WorkStop.{WorkStop}
 use Rattle.ax_blocks.specs.declared.work.WorkStop.TheVariants.{Fault, ReportFault, OutOfMemory}
 use Rattle.ax_codec.specs.Standing.{StandsFor, IsCompiled}
 use Rattle.ax_codec.specs.declared.codec.Codec.{Codec}
-use Rattle.ax_view.specs.Views.{SpellsSome, FailsThere}
+use Rattle.ax_walk.specs.Views.{SpellsSome, FailsThere}
 
 -- ---- a catalogue of one specification
 
@@ -70,7 +70,7 @@ module _ (spec : SpecTree) (frn : ℕ) (x : ExpansionTree) (number : ℕ) (raw :
   memory_taken held shown fails flaws = takes_nothing (expand_command spec frn x) number raw held shown fails flaws
 
   -- its lines, gathered after none
-  gives_lines : (own : Codec) (body : List ℕ) (old new : Lines) → own ≡ codec → body ≡ raw.body → raw.category ≡ codec.category → length raw.body ≤ 65532 → SpellsSome codec raw.body → old.spelled ≡ [] → old.faulty ≡ [] → GathersBlock x frn number own body old new
+  gives_lines : (own : Codec) (body : List ℕ) (old new : ContentLines) → own ≡ codec → body ≡ raw.body → raw.category ≡ codec.category → length raw.body ≤ 65532 → SpellsSome codec raw.body → old.spelled ≡ [] → old.faulty ≡ [] → GathersBlock x frn number own body old new
       → GivesFor (expand_command spec frn x) number raw new.faulty new.spelled
   gives_lines own body old new at is same few spells none clear g =
       let stands : StandsFor own spec = subst (λ c. StandsFor c spec) (sym at) compiled.stands in
@@ -85,13 +85,13 @@ module _ (spec : SpecTree) (frn : ℕ) (x : ExpansionTree) (number : ℕ) (raw :
         answer = λ i. gives (sym (g.faulty spec some.0 compiled.clean stands spelled ∙ ap (λ t. t ++ unread_lines frn x number 0 some.0) clear) i) (sym (g.spelled spec some.0 compiled.clean stands spelled ∙ ap (λ t. t ++ re_lines frn x number 0 some.0) none) i);
       }
 
-  pub lines_taken : (own : Codec) (body : List ℕ) (old new : Lines) (o r : SinkChange) (u : Unit) (said laid : List ℕ) (result : Result Unit WorkStop) → own ≡ codec → body ≡ raw.body → raw.category ≡ codec.category → length raw.body ≤ 65532 → SpellsSome codec raw.body
+  pub lines_taken : (own : Codec) (body : List ℕ) (old new : ContentLines) (o r : SinkChange) (u : Unit) (said laid : List ℕ) (result : Result Unit WorkStop) → own ≡ codec → body ≡ raw.body → raw.category ≡ codec.category → length raw.body ≤ 65532 → SpellsSome codec raw.body
       → old.spelled ≡ [] → old.faulty ≡ [] → GathersBlock x frn number own body old new → said ≡ new.faulty → Wrote r (Ok u) said → laid ≡ new.spelled → WritesOctets o laid result → Takes (expand_command spec frn x) number raw o r result
   lines_taken own body old new o r u said laid result at is same few spells none clear g s w l v =
       takes_after_lines (expand_command spec frn x) number raw o r new.faulty new.spelled u result (gives_lines own body old new at is same few spells none clear g)
       (subst (Wrote r (Ok u)) s w) (subst (λ t. WritesOctets o t result) l v)
 
-  pub lines_cut : (own : Codec) (body : List ℕ) (old new : Lines) (held : Option (List ℕ)) (fails : ℕ) (r : SinkChange) (e : SinkFailed) (said : List ℕ) → own ≡ codec → body ≡ raw.body → raw.category ≡ codec.category → length raw.body ≤ 65532 → SpellsSome codec raw.body
+  pub lines_cut : (own : Codec) (body : List ℕ) (old new : ContentLines) (held : Option (List ℕ)) (fails : ℕ) (r : SinkChange) (e : SinkFailed) (said : List ℕ) → own ≡ codec → body ≡ raw.body → raw.category ≡ codec.category → length raw.body ≤ 65532 → SpellsSome codec raw.body
       → old.spelled ≡ [] → old.faulty ≡ [] → GathersBlock x frn number own body old new → said ≡ new.faulty → Wrote r (Err e) said → Takes (expand_command spec frn x) number raw (change held held fails fails) r (Err ReportFault)
   lines_cut own body old new held fails r e said at is same few spells none clear g s w =
       takes_cut_line (expand_command spec frn x) number raw r held fails new.faulty new.spelled e (gives_lines own body old new at is same few spells none clear g) (subst (Wrote r (Err e)) s w)

@@ -6,7 +6,7 @@ use Rattle.ax_bits.specs.Bits.{bits}
 use Rattle.ax_expand.specs.Expansion.{ExpansionTree}
 use Rattle.ax_expand_work.specs.ExpandCommand.{content_at, re_lines_of, unread_lines_of, re_lines, unread_lines}
 use Rattle.ax_expand_work.specs.Gathering.{GathersContent, GathersBlock}
-use Rattle.ax_expand_work.specs.declared.contents.Lines.{Lines}
+use Rattle.ax_expand_work.specs.declared.contents.ContentLines.{ContentLines}
 use Rattle.ax_format.proofs.Spelled.{read_spelled}
 use Rattle.ax_format.specs.At.{slot_value}
 use Rattle.ax_format.specs.Bodies.{SpellsBody}
@@ -19,10 +19,10 @@ use Rattle.ax_codec.proofs.BareKinds.{bare_read, stands_record}
 use Rattle.ax_codec.specs.Standing.{StandsFor}
 use Rattle.ax_codec.specs.Table.{record_kind_at}
 use Rattle.ax_codec.specs.declared.codec.Codec.{Codec}
-use Rattle.ax_view.proofs.Spelled.{value_spelled}
-use Rattle.ax_view.specs.Shown.{content_in}
-use Rattle.ax_view.specs.Values.{ItemInBounds, IsItemOf, value_in, value_read, entries_in}
-use Rattle.ax_view.specs.Views.{CountsRecords, IsRecordOf, SpellEach}
+use Rattle.ax_walk.proofs.Spelled.{value_spelled}
+use Rattle.ax_walk.specs.Shown.{content_in}
+use Rattle.ax_walk.specs.Values.{ItemInBounds, IsItemOf, value_in, value_read, entries_in}
+use Rattle.ax_walk.specs.Views.{CountsRecords, IsRecordOf, SpellEach}
 
 -- ---- a content has at most 254 octets
 
@@ -47,30 +47,30 @@ content_few false k body content e bounds one is = few_in k (value_in k body) (b
 -- ---- a record
 
 module _ (x : ExpansionTree) (block n frn : ℕ) (es : EntriesTree) where
-  pub no_item : (lines : Lines) → slot_value frn es ≡ None → GathersContent x block n (content_at frn es) lines lines
+  pub no_item : (lines : ContentLines) → slot_value frn es ≡ None → GathersContent x block n (content_at frn es) lines lines
   no_item lines e =
       let none : content_at frn es ≡ None = ap (option_and_then content_in) e in
       subst (λ content. GathersContent x block n content lines lines) (sym none) (record { spelled = sym (append-nil lines.spelled); faulty = sym (append-nil lines.faulty) })
 
-  pub no_content : (v : ValueTree) (lines : Lines) → slot_value frn es ≡ Some v → content_in v ≡ None → GathersContent x block n (content_at frn es) lines lines
+  pub no_content : (v : ValueTree) (lines : ContentLines) → slot_value frn es ≡ Some v → content_in v ≡ None → GathersContent x block n (content_at frn es) lines lines
   no_content v lines e f =
       let none : content_at frn es ≡ None = ap (option_and_then content_in) e ∙ f in
       subst (λ content. GathersContent x block n content lines lines) (sym none) (record { spelled = sym (append-nil lines.spelled); faulty = sym (append-nil lines.faulty) })
 
-  pub has_content : (v : ValueTree) (content : List ℕ) (old new : Lines) → slot_value frn es ≡ Some v → content_in v ≡ Some content → GathersContent x block n (Some content) old new → GathersContent x block n (content_at frn es) old new
+  pub has_content : (v : ValueTree) (content : List ℕ) (old new : ContentLines) → slot_value frn es ≡ Some v → content_in v ≡ Some content → GathersContent x block n (Some content) old new → GathersContent x block n (content_at frn es) old new
   has_content v content old new e f h = subst (λ content. GathersContent x block n content old new) (sym (ap (option_and_then content_in) e ∙ f)) h
 
 -- ---- the records of a view
 
 -- the lines of records so far, before those of the rest of the records that the body spells
-pub record GoesOn (x : ExpansionTree) (frn block : ℕ) (codec : Codec) (spec : SpecTree) (n : ℕ) (records : List EntriesTree) (old now : Lines) (left : List (Codec × List ℕ)) : Type 0 where
+pub record GoesOn (x : ExpansionTree) (frn block : ℕ) (codec : Codec) (spec : SpecTree) (n : ℕ) (records : List EntriesTree) (old now : ContentLines) (left : List (Codec × List ℕ)) : Type 0 where
   pub rest : List EntriesTree
   pub zips : AllZip (IsRecordOf codec spec) rest left
   pub count : n + length rest ≡ length records
   pub spelled : now.spelled ++ re_lines frn x block n rest ≡ old.spelled ++ re_lines frn x block 0 records
   pub faulty : now.faulty ++ unread_lines frn x block n rest ≡ old.faulty ++ unread_lines frn x block 0 records
 
-pub record Gathering (x : ExpansionTree) (frn block : ℕ) (codec : Codec) (body : List ℕ) (n : ℕ) (old now : Lines) (left : List (Codec × List ℕ)) : Type 0 where
+pub record Gathering (x : ExpansionTree) (frn block : ℕ) (codec : Codec) (body : List ℕ) (n : ℕ) (old now : ContentLines) (left : List (Codec × List ℕ)) : Type 0 where
   pub goes : (spec : SpecTree) (records : List EntriesTree) → NoFlaw spec → StandsFor codec spec → SpellsBody spec records (bits body) → GoesOn x frn block codec spec n records old now left
 
 -- what octets that spell a record show is that record
@@ -83,12 +83,12 @@ shown_is codec spec entries s stands h =
     ap (λ r. entries_in (value_read r)) (same ∙ whole)
 
 module _ (x : ExpansionTree) (frn block : ℕ) (codec : Codec) (body : List ℕ) where
-  pub gathering_begins : (lines : Lines) (left : List (Codec × List ℕ)) → SpellEach codec body left → Gathering x frn block codec body 0 lines lines left
+  pub gathering_begins : (lines : ContentLines) (left : List (Codec × List ℕ)) → SpellEach codec body left → Gathering x frn block codec body 0 lines lines left
   gathering_begins lines left each = record {
     goes = λ spec records clean stands spells. record { rest = records; zips = each.spells spec records clean stands spells; count = omega arith; spelled = refl; faulty = refl };
   }
 
-  one_more : (spec : SpecTree) (n : ℕ) (records : List EntriesTree) (old now new : Lines) (s : Codec × List ℕ) (left : List (Codec × List ℕ)) (rest : List EntriesTree) → StandsFor codec spec → AllZip (IsRecordOf codec spec) rest (s ∷ left) → n + length rest ≡ length records
+  one_more : (spec : SpecTree) (n : ℕ) (records : List EntriesTree) (old now new : ContentLines) (s : Codec × List ℕ) (left : List (Codec × List ℕ)) (rest : List EntriesTree) → StandsFor codec spec → AllZip (IsRecordOf codec spec) rest (s ∷ left) → n + length rest ≡ length records
       → now.spelled ++ re_lines frn x block n rest ≡ old.spelled ++ re_lines frn x block 0 records → now.faulty ++ unread_lines frn x block n rest ≡ old.faulty ++ unread_lines frn x block 0 records
       → GathersContent x block n (content_at frn (entries_in (value_in (record_kind_at s.0.nodes s.0.slots) s.1))) now new → GoesOn x frn block codec spec (n + 1) records old new left
   one_more spec n records old now new s left [] stands zips count spelled faulty g = absurd zips
@@ -101,7 +101,7 @@ module _ (x : ExpansionTree) (frn block : ℕ) (codec : Codec) (body : List ℕ)
         faulty = ap (λ t. t ++ unread_lines frn x block (n + 1) rest) (g.faulty ∙ ap (λ c. now.faulty ++ unread_lines_of x block n c) is) ∙ append_assoc now.faulty (unread_lines_of x block n (content_at frn r)) (unread_lines frn x block (n + 1) rest) ∙ faulty;
       }
 
-  pub gathering_goes_on : (n : ℕ) (old now new : Lines) (s : Codec × List ℕ) (all left : List (Codec × List ℕ)) → all ≡ s ∷ left → Gathering x frn block codec body n old now all → GathersContent x block n (content_at frn (entries_in (value_in (record_kind_at s.0.nodes s.0.slots) s.1))) now new
+  pub gathering_goes_on : (n : ℕ) (old now new : ContentLines) (s : Codec × List ℕ) (all left : List (Codec × List ℕ)) → all ≡ s ∷ left → Gathering x frn block codec body n old now all → GathersContent x block n (content_at frn (entries_in (value_in (record_kind_at s.0.nodes s.0.slots) s.1))) now new
       → Gathering x frn block codec body (n + 1) old new left
   gathering_goes_on n old now new s all left split h g = record {
     goes = λ spec records clean stands spells. let so = h.goes spec records clean stands spells in one_more spec n records old now new s left so.rest stands (subst (AllZip (IsRecordOf codec spec) so.rest) split so.zips) so.count so.spelled so.faulty g;
@@ -115,7 +115,7 @@ module _ (x : ExpansionTree) (frn block : ℕ) (codec : Codec) (body : List ℕ)
   none_zips spec [] h = refl
   none_zips spec (r ∷ rest) h = absurd h
 
-  all_gathered : (n : ℕ) (old now : Lines) (left : List (Codec × List ℕ)) → Gathering x frn block codec body n old now left → ((spec : SpecTree) (records : List EntriesTree) → NoFlaw spec → StandsFor codec spec → SpellsBody spec records (bits body) → (so : GoesOn x frn block codec spec n records old now left) → length so.rest ≡ 0)
+  all_gathered : (n : ℕ) (old now : ContentLines) (left : List (Codec × List ℕ)) → Gathering x frn block codec body n old now left → ((spec : SpecTree) (records : List EntriesTree) → NoFlaw spec → StandsFor codec spec → SpellsBody spec records (bits body) → (so : GoesOn x frn block codec spec n records old now left) → length so.rest ≡ 0)
       → GathersBlock x frn block codec body old now
   all_gathered n old now left h none = record {
     spelled = λ spec records clean stands spells. let so = h.goes spec records clean stands spells in sym (append-nil now.spelled) ∙ ap (λ rs. now.spelled ++ re_lines frn x block n rs) (sym (no_rest so.rest (none spec records clean stands spells so))) ∙ so.spelled;
@@ -123,9 +123,9 @@ module _ (x : ExpansionTree) (frn block : ℕ) (codec : Codec) (body : List ℕ)
   }
 
   -- no record is left
-  pub gathered_all : (n : ℕ) (old now : Lines) (left : List (Codec × List ℕ)) → left ≡ [] → Gathering x frn block codec body n old now left → GathersBlock x frn block codec body old now
+  pub gathered_all : (n : ℕ) (old now : ContentLines) (left : List (Codec × List ℕ)) → left ≡ [] → Gathering x frn block codec body n old now left → GathersBlock x frn block codec body old now
   gathered_all n old now left e h = all_gathered n old now left h (λ spec records clean stands spells so. none_zips spec so.rest (subst (AllZip (IsRecordOf codec spec) so.rest) e so.zips))
 
   -- as many were gathered as there are
-  pub gathered_count : (n count : ℕ) (old now : Lines) (left : List (Codec × List ℕ)) → CountsRecords codec body count → count ≤ n → Gathering x frn block codec body n old now left → GathersBlock x frn block codec body old now
+  pub gathered_count : (n count : ℕ) (old now : ContentLines) (left : List (Codec × List ℕ)) → CountsRecords codec body count → count ≤ n → Gathering x frn block codec body n old now left → GathersBlock x frn block codec body old now
   gathered_count n count old now left counts past h = all_gathered n old now left h (λ spec records clean stands spells so. omega (arith, so.count, past, counts.counts spec records clean stands spells))

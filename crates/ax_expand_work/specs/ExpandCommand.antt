@@ -7,7 +7,7 @@ use Rattle.ax_format.specs.Naming.{frn_of}
 use Rattle.ax_format.specs.Specification.{ItemTree, SpecTree, first_named}
 use Rattle.ax_format.specs.Tree.{KindTree, explicit, EntriesTree}
 use Rattle.ax_blocks.specs.Commands.{BlockCommand, BlockAnswer, gives}
-use Rattle.ax_view.specs.Shown.{content_in}
+use Rattle.ax_walk.specs.Shown.{content_in}
 use Rattle.ax_expand_work.specs.Judging.{Judged, spelled, faulty, judge}
 use Rattle.ax_expand_work.specs.Lines.{re_line, unread_line}
 

@@ -3,7 +3,7 @@ use Rattle.std.specs.Prelude.{◌≡◌, ℕ, List, ◌++◌, Option}
 use Rattle.ax_bits.specs.Bits.{bits}
 use Rattle.ax_expand.specs.Expansion.{ExpansionTree}
 use Rattle.ax_expand_work.specs.ExpandCommand.{re_lines_of, unread_lines_of, re_lines, unread_lines}
-use Rattle.ax_expand_work.specs.declared.contents.Lines.{Lines}
+use Rattle.ax_expand_work.specs.declared.contents.ContentLines.{ContentLines}
 use Rattle.ax_format.specs.Bodies.{SpellsBody}
 use Rattle.ax_format.specs.Flaws.{NoFlaw}
 use Rattle.ax_format.specs.Specification.{SpecTree}
@@ -12,11 +12,11 @@ use Rattle.ax_codec.specs.Standing.{StandsFor}
 use Rattle.ax_codec.specs.declared.codec.Codec.{Codec}
 
 -- the lines of this content come after those before
-pub record GathersContent (x : ExpansionTree) (block n : ℕ) (content : Option (List ℕ)) (old new : Lines) : Type 0 where
+pub record GathersContent (x : ExpansionTree) (block n : ℕ) (content : Option (List ℕ)) (old new : ContentLines) : Type 0 where
   pub spelled : new.spelled ≡ old.spelled ++ re_lines_of x block n content
   pub faulty : new.faulty ≡ old.faulty ++ unread_lines_of x block n content
 
 -- so do those of the records that the body spells, for each specification that the codec stands for
-pub record GathersBlock (x : ExpansionTree) (frn block : ℕ) (codec : Codec) (body : List ℕ) (old new : Lines) : Type 0 where
+pub record GathersBlock (x : ExpansionTree) (frn block : ℕ) (codec : Codec) (body : List ℕ) (old new : ContentLines) : Type 0 where
   pub spelled : (spec : SpecTree) (records : List EntriesTree) → NoFlaw spec → StandsFor codec spec → SpellsBody spec records (bits body) → new.spelled ≡ old.spelled ++ re_lines frn x block 0 records
   pub faulty : (spec : SpecTree) (records : List EntriesTree) → NoFlaw spec → StandsFor codec spec → SpellsBody spec records (bits body) → new.faulty ≡ old.faulty ++ unread_lines frn x block 0 records

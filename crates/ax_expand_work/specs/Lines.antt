@@ -7,8 +7,8 @@ use Rattle.ax_expand.specs.declared.fault.ContentCause.TheVariants.{RunsOut, Und
 use Rattle.ax_format.specs.CanonicalOctets.{octets_of}
 use Rattle.ax_format.specs.Tree.{ValueTree, EntriesTree, no_entries, entry_and}
 use Rattle.ax_report.specs.Lines.{numbered}
-use Rattle.ax_text.specs.BlockText.{RecordLine}
-use Rattle.ax_text.specs.ValueText.{hex_text}
+use Rattle.ax_text_form.specs.BlockText.{RecordLine}
+use Rattle.ax_text_form.specs.ValueText.{hex_text}
 
 -- a record that has one item, RE, of that value
 abbrev pub re_record : ValueTree → EntriesTree

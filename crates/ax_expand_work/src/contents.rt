@@ -5,14 +5,14 @@ ghost use Rattle.ax_expand_work.specs.Gathering.{GathersContent};
 
 use crate::lines::{canonical, push_re, push_unread};
 use ax_expand::{AcceptedExpansion, ContentError, decode_content};
-use ax_octets::Octets;
+use ax_octets::OctetBuffer;
 use std::alloc::{AllocError, Global};
 
 /// The lines of a block, before any of them is written: of contents that spell a value, and of contents that have a fault.
 #[derive(Drop)]
-pub(crate) struct Lines {
-    pub(crate) spelled: Octets,
-    pub(crate) faulty: Octets,
+pub(crate) struct ContentLines {
+    pub(crate) spelled: OctetBuffer,
+    pub(crate) faulty: OctetBuffer,
 }
 
 /// Gathers the line of a content of RE, of at most 254 octets.
@@ -23,7 +23,7 @@ pub(crate) fn gather_content(
     block: u64,
     number: u32,
     content: &[u8],
-    lines: &mut Lines,
+    lines: &mut ContentLines,
 ) -> Result<(), AllocError>
     requires { length content.now ≤ 254 }
     ensures { OnOk result (GathersContent (expansion_tree expansion.now) block number (Some content.now) lines.old lines.new) }

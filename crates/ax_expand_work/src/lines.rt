@@ -10,13 +10,13 @@ ghost use Rattle.ax_format.specs.Plain.{slots_tree, value_tree};
 ghost use Rattle.ax_format.specs.Shape.{Shape};
 ghost use Rattle.ax_format.specs.Tree.{compound};
 ghost use Rattle.ax_report.specs.Lines.{numbered};
-ghost use Rattle.ax_text.specs.BlockText.{RecordLine};
-ghost use Rattle.ax_text.specs.ValueText.{hex_text};
+ghost use Rattle.ax_text_form.specs.BlockText.{RecordLine};
+ghost use Rattle.ax_text_form.specs.ValueText.{hex_text};
 
 use ax_expand::{AcceptedExpansion, ContentCause, encode_content};
 use ax_format::{Entries, Entry, Record, Value};
-use ax_octets::Octets;
-use ax_text::record_text;
+use ax_octets::OctetBuffer;
+use ax_text_form::record_text;
 use ax_values::EncodeError;
 use std::alloc::{AllocError, Global};
 
@@ -36,7 +36,7 @@ fn cause_text(cause: ContentCause) -> &'static [u8]
 
 /// Appends a text and a number after it.
 #[tactic(auto, using(crate::proofs::Appended::appending))]
-fn push_numbered(lines: &mut Octets, front: &[u8], number: u64) -> Result<(), AllocError>
+fn push_numbered(lines: &mut OctetBuffer, front: &[u8], number: u64) -> Result<(), AllocError>
     ensures { OnOk result (lines.new ≡ lines.old ++ numbered front.now number) }
 {
     lines.text(front)?;
@@ -44,7 +44,7 @@ fn push_numbered(lines: &mut Octets, front: &[u8], number: u64) -> Result<(), Al
 }
 
 /// Appends a space, the name of a cause and the end of its line.
-fn push_cause(lines: &mut Octets, cause: ContentCause) -> Result<(), AllocError>
+fn push_cause(lines: &mut OctetBuffer, cause: ContentCause) -> Result<(), AllocError>
     ensures { OnOk result (lines.new ≡ lines.old ++ (codes " " ++ (cause_name cause ++ codes "\n"))) }
 {
     lines.text3(b" ", cause_text(cause), b"\n")
@@ -53,7 +53,7 @@ fn push_cause(lines: &mut Octets, cause: ContentCause) -> Result<(), AllocError>
 /// Appends the line `unread block N record M bit K CAUSE`.
 #[tactic(auto, using(crate::proofs::Appended::appending))]
 pub(crate) fn push_unread(
-    lines: &mut Octets,
+    lines: &mut OctetBuffer,
     block: u64,
     number: u32,
     bit: u32,
@@ -101,7 +101,7 @@ fn text_of(
 
 /// Appends octets in hexadecimal digits, in quotes.
 #[tactic(auto, using(crate::proofs::Appended::appending))]
-fn push_hex(alloc: Global, lines: &mut Octets, octets: &[u8]) -> Result<(), AllocError>
+fn push_hex(alloc: Global, lines: &mut OctetBuffer, octets: &[u8]) -> Result<(), AllocError>
     ensures { OnOk result (lines.new ≡ lines.old ++ hex_text (octets_of (bits octets.now))) }
 {
     let digits = hex::encode(alloc, octets)?;
@@ -113,7 +113,7 @@ fn push_hex(alloc: Global, lines: &mut Octets, octets: &[u8]) -> Result<(), Allo
 #[tactic(auto, using(crate::proofs::Appended::appending))]
 pub(crate) fn push_re(
     alloc: Global,
-    lines: &mut Octets,
+    lines: &mut OctetBuffer,
     expansion: &AcceptedExpansion,
     block: u64,
     number: u32,

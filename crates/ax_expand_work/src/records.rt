@@ -3,11 +3,11 @@ ghost use Rattle.std.specs.Prelude.{◌≡◌, ◌++◌, OnOk};
 ghost use Rattle.ax_expand.specs.Expansion.{expansion_tree};
 ghost use Rattle.ax_expand_work.specs.ExpandCommand.{content_at};
 ghost use Rattle.ax_expand_work.specs.Gathering.{GathersContent, GathersBlock};
-ghost use Rattle.ax_view.specs.Shown.{record_entries};
+ghost use Rattle.ax_walk.specs.Shown.{record_entries};
 
-use crate::contents::{Lines, gather_content};
+use crate::contents::{ContentLines, gather_content};
 use ax_expand::AcceptedExpansion;
-use ax_view::{BlockView, RecordView};
+use ax_walk::{BlockView, RecordView};
 use std::alloc::{AllocError, Global};
 
 /// Gathers the line of RE's content in a record, where RE, which has that field reference number, is marked.
@@ -18,7 +18,7 @@ fn gather_record(
     block: u64,
     number: u32,
     one: &RecordView<'_, '_>,
-    lines: &mut Lines,
+    lines: &mut ContentLines,
 ) -> Result<(), AllocError>
     ensures { OnOk result (GathersContent (expansion_tree expansion.now) block number (content_at frn (record_entries one.now)) lines.old lines.new) }
 {
@@ -38,7 +38,7 @@ pub(crate) fn gather_block(
     frn: u32,
     block: u64,
     view: &BlockView<'_, '_>,
-    lines: &mut Lines,
+    lines: &mut ContentLines,
 ) -> Result<(), AllocError>
     ensures { OnOk result (GathersBlock (expansion_tree expansion.now) frn block view.now.codec.now view.now.body.now lines.old lines.new) }
 {

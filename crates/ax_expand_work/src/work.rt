@@ -5,7 +5,7 @@ ghost use Rattle.ax_expand_work.specs.ExpandCommand.{expand_command};
 ghost use Rattle.ax_format.specs.Plain.{spec_tree};
 ghost use Rattle.ax_codec.specs.Standing.{IsCompiled};
 
-use crate::contents::Lines;
+use crate::contents::ContentLines;
 use crate::records::gather_block;
 use ax_blocks::{BlockWork, WorkStop, write_piece};
 use ax_check::Accepted;
@@ -13,8 +13,8 @@ use ax_codec::Codec;
 use ax_endpoints::{Sink, write_text};
 use ax_expand::AcceptedExpansion;
 use ax_format::RawBlock;
-use ax_octets::Octets;
-use ax_view::scan;
+use ax_octets::OctetBuffer;
+use ax_walk::scan;
 use std::alloc::Global;
 
 /// `expand` under a specification, by its codec: RE has that field reference number, and its contents are read by the expansion.
@@ -27,7 +27,7 @@ pub struct ExpandViews<'c> {
     codec: &'c Codec,
     expansion: &'c AcceptedExpansion,
     frn: u32,
-    lines: Lines,
+    lines: ContentLines,
 }
 
 impl<'c> ExpandViews<'c> {
@@ -49,9 +49,9 @@ impl<'c> ExpandViews<'c> {
             codec,
             expansion,
             frn,
-            lines: Lines {
-                spelled: Octets::new(alloc),
-                faulty: Octets::new(alloc),
+            lines: ContentLines {
+                spelled: OctetBuffer::new(alloc),
+                faulty: OctetBuffer::new(alloc),
             },
         }
     }

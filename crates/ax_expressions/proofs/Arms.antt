@@ -9,7 +9,7 @@ use Rattle.ax_expressions.specs.Words.{op_text, keyword_text, path_word, int_tex
 use Rattle.ax_expressions.specs.Tree.{ExprTree, all_of, any_of, not_of, present, compared, ExprsTree, no_exprs, expr_and}
 use Rattle.ax_expressions.specs.Spelling.{opening, closing, expr_texts, exprs_texts, AllInForm, IsExpr}
 use Rattle.ax_expressions.specs.Parts.{IsComparison, IsBraced, IsNegated}
-use Rattle.ax_expressions.specs.declared.words.Keyword.TheVariants as Word
+use Rattle.ax_expressions.specs.declared.words.FilterKeyword.TheVariants as Word
 use Rattle.ax_expressions.proofs.Unique.{apart, keyword_in}
 
 -- ---- lists of expressions

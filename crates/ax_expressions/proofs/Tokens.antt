@@ -9,8 +9,8 @@ use Rattle.ax_expressions.specs.Words.{op_text, ops, op_of, keyword_text, keywor
 use Rattle.ax_expressions.specs.declared.expr.FullPath.{FullPath}
 use Rattle.ax_expressions.specs.declared.expr.Op.{Op}
 use Rattle.ax_expressions.specs.declared.expr.Op.TheVariants.{Equal, Unequal, Less, LessOrEqual, Greater, GreaterOrEqual}
-use Rattle.ax_expressions.specs.declared.words.Keyword.{Keyword}
-use Rattle.ax_expressions.specs.declared.words.Keyword.TheVariants as Word
+use Rattle.ax_expressions.specs.declared.words.FilterKeyword.{FilterKeyword}
+use Rattle.ax_expressions.specs.declared.words.FilterKeyword.TheVariants as Word
 
 -- ---- a path
 
@@ -90,7 +90,7 @@ pub ruleset op_steps = (op_refused, op_ends, op_read, op_split)
 
 -- ---- the first word
 
-keyword_back : (word : Keyword) → keyword_of (keyword_text word) ≡ Some word
+keyword_back : (word : FilterKeyword) → keyword_of (keyword_text word) ≡ Some word
 unfolding keyword_of
 keyword_back Word.All = refl
 keyword_back Word.Any = refl
@@ -98,7 +98,7 @@ keyword_back Word.Not = refl
 keyword_back Word.Present = refl
 keyword_back Word.Is = refl
 
-keyword_is : (text : List ℕ) (word : Keyword) → keyword_of text ≡ Some word → text ≡ keyword_text word
+keyword_is : (text : List ℕ) (word : FilterKeyword) → keyword_of text ≡ Some word → text ≡ keyword_text word
 unfolding keyword_of
 keyword_is text word e = sym ((bytes_eq-Decides (keyword_text word) text).0 (find_passes (λ word. bytes_eq (keyword_text word) text) keywords word e))
 
@@ -111,7 +111,7 @@ keyword_refused texts text e n = not_first IsKeyword texts text e (no_keyword te
 pub keyword_ends : (texts : Texts) → texts ≡ [] → IsNotFirst IsKeyword texts
 keyword_ends texts e = none_first IsKeyword texts e
 
-pub keyword_split : (texts : Texts) (text : List ℕ) (word : Keyword) → texts ≡ text ∷ drop 1 texts → keyword_of text ≡ Some word → texts ≡ keyword_text word ∷ drop 1 texts
+pub keyword_split : (texts : Texts) (text : List ℕ) (word : FilterKeyword) → texts ≡ text ∷ drop 1 texts → keyword_of text ≡ Some word → texts ≡ keyword_text word ∷ drop 1 texts
 keyword_split texts text word e h = e ∙ ap (λ t. t ∷ drop 1 texts) (keyword_is text word h)
 
 pub ruleset keyword_steps = (keyword_refused, keyword_ends, keyword_split)

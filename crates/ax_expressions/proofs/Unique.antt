@@ -8,8 +8,8 @@ use Rattle.ax_expressions.specs.Words.{op_text, op_of, keyword_text}
 use Rattle.ax_expressions.specs.Tree.{ExprTree, all_of, any_of, not_of, present, compared, ExprsTree, no_exprs, expr_and}
 use Rattle.ax_expressions.specs.Spelling.{closing, expr_texts, exprs_texts, InForm, AllInForm, IsExpr}
 use Rattle.ax_expressions.specs.declared.expr.Op.{Op}
-use Rattle.ax_expressions.specs.declared.words.Keyword.{Keyword}
-use Rattle.ax_expressions.specs.declared.words.Keyword.TheVariants as Word
+use Rattle.ax_expressions.specs.declared.words.FilterKeyword.{FilterKeyword}
+use Rattle.ax_expressions.specs.declared.words.FilterKeyword.TheVariants as Word
 use Rattle.ax_expressions.proofs.Decimals.{same_int}
 use Rattle.ax_expressions.proofs.FullPaths.{same_path}
 use Rattle.ax_expressions.proofs.Tokens.{op_back}
@@ -19,7 +19,7 @@ first [] = []
 first (text ∷ texts) = text
 
 -- the first word of an expression
-abbrev pub keyword_in : ExprTree → Keyword
+abbrev pub keyword_in : ExprTree → FilterKeyword
 keyword_in (all_of es) = Word.All
 keyword_in (any_of es) = Word.Any
 keyword_in (not_of e) = Word.Not

@@ -13,7 +13,7 @@ use Rattle.ax_expressions.specs.declared.expr.Expr.{Expr}
 use Rattle.ax_expressions.specs.declared.expr.FullPath.{FullPath}
 use Rattle.ax_expressions.specs.declared.expr.Op.{Op}
 use Rattle.ax_expressions.specs.declared.expr.Op.TheVariants.{Equal}
-use Rattle.ax_expressions.specs.declared.words.Keyword.TheVariants as Word
+use Rattle.ax_expressions.specs.declared.words.FilterKeyword.TheVariants as Word
 use Rattle.ax_expressions.proofs.Unique.{expr_free, expr_never}
 use Rattle.ax_expressions.proofs.Arms.{scatter, word_stops}
 

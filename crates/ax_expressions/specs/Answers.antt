@@ -5,8 +5,8 @@ use Rattle.ax_tokens.specs.Stopping.{texts_of}
 use Rattle.ax_tokens.specs.FirstBad.{FirstBad}
 use Rattle.ax_expressions.specs.Tree.{ExprTree}
 use Rattle.ax_expressions.specs.Spelling.{InForm, expr_texts, IsExpr}
-use Rattle.ax_expressions.specs.declared.syntax.SyntaxError.{SyntaxError}
-use Rattle.ax_expressions.specs.declared.syntax.SyntaxError.TheVariants.{BadToken, OutOfMemory}
+use Rattle.ax_expressions.specs.declared.syntax.ExprSyntaxError.{ExprSyntaxError}
+use Rattle.ax_expressions.specs.declared.syntax.ExprSyntaxError.TheVariants.{BadToken, OutOfMemory}
 
 -- the tokens are those of the expression
 pub record Spells (tokens : List PlainToken) (e : ExprTree) : Type 0 where
@@ -14,6 +14,6 @@ pub record Spells (tokens : List PlainToken) (e : ExprTree) : Type 0 where
   pub texts : texts_of tokens ≡ expr_texts e
 
 -- the token that a refusal names; want of memory may come at any tokens
-abbrev pub IsBad : List PlainToken → SyntaxError → Type 0
+abbrev pub IsBad : List PlainToken → ExprSyntaxError → Type 0
 IsBad tokens (BadToken token) = FirstBad IsExpr (texts_of tokens) token
 IsBad tokens OutOfMemory = Unit {0}

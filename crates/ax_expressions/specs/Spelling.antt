@@ -4,7 +4,7 @@ use Rattle.ax_tokens.specs.Stopping.{Texts}
 use Rattle.ax_expressions.specs.Tree.{ExprTree, all_of, any_of, not_of, present, compared, ExprsTree, no_exprs, expr_and, exprs_of, expr_tree}
 use Rattle.ax_expressions.specs.Words.{keyword_text, op_text, IsPath, path_word, IsInt, int_text}
 use Rattle.ax_expressions.specs.declared.expr.Expr.{Expr}
-use Rattle.ax_expressions.specs.declared.words.Keyword.TheVariants as Word
+use Rattle.ax_expressions.specs.declared.words.FilterKeyword.TheVariants as Word
 
 abbrev pub opening : List ℕ
 opening = codes "{"

@@ -6,28 +6,28 @@ use Rattle.ax_format.specs.Paths.{path_text}
 use Rattle.ax_expressions.specs.declared.expr.FullPath.{FullPath}
 use Rattle.ax_expressions.specs.declared.expr.Op.{Op}
 use Rattle.ax_expressions.specs.declared.expr.Op.TheVariants.{Equal, Unequal, Less, LessOrEqual, Greater, GreaterOrEqual}
-use Rattle.ax_expressions.specs.declared.words.Keyword.{Keyword}
-use Rattle.ax_expressions.specs.declared.words.Keyword.TheVariants as Word
+use Rattle.ax_expressions.specs.declared.words.FilterKeyword.{FilterKeyword}
+use Rattle.ax_expressions.specs.declared.words.FilterKeyword.TheVariants as Word
 
 -- ---- keywords
 
 -- the first word of an expression
-abbrev pub keyword_text : Keyword → List ℕ
+abbrev pub keyword_text : FilterKeyword → List ℕ
 keyword_text Word.All = codes "all"
 keyword_text Word.Any = codes "any"
 keyword_text Word.Not = codes "not"
 keyword_text Word.Present = codes "present"
 keyword_text Word.Is = codes "is"
 
-abbrev pub keywords : List Keyword
+abbrev pub keywords : List FilterKeyword
 keywords = Word.All ∷ Word.Any ∷ Word.Not ∷ Word.Present ∷ Word.Is ∷ []
 
 -- the one of these octets
-unfoldable pub keyword_of : List ℕ → Option Keyword
+unfoldable pub keyword_of : List ℕ → Option FilterKeyword
 keyword_of text = find (λ word. bytes_eq (keyword_text word) text) keywords
 
 abbrev pub IsKeyword : List ℕ → Type 0
-IsKeyword text = (word : Keyword) × (text ≡ keyword_text word)
+IsKeyword text = (word : FilterKeyword) × (text ≡ keyword_text word)
 
 -- ---- comparisons
 

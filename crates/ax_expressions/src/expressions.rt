@@ -11,7 +11,7 @@ ghost use Rattle.ax_expressions.specs.Parts.{comparison_texts, IsBraced, IsClose
 use crate::expr::{Expr, Exprs, FullPath, Op};
 use crate::numbers::int_of;
 use crate::paths::path_of;
-use crate::words::{Keyword, keyword_in, op_in};
+use crate::words::{FilterKeyword, keyword_in, op_in};
 use ax_tokens::{Reader, Stopped};
 use std::alloc::Global;
 
@@ -59,7 +59,7 @@ fn op(reader: &mut Reader<'_, '_>) -> Result<Op, Stopped>
 
 /// The first word of an expression. It isn't read yet.
 #[tactic(auto, using(crate::proofs::Tokens::keyword_steps))]
-fn first_word(reader: &Reader<'_, '_>) -> Result<Keyword, Stopped>
+fn first_word(reader: &Reader<'_, '_>) -> Result<FilterKeyword, Stopped>
     ensures word { IfOk result (λ word. reader.now ≡ keyword_text word ∷ drop 1 reader.now) }
     ensures none { IfErr result (λ stopped. (stopped ≡ Bad) × IsNotFirst IsKeyword reader.now) }
 {
@@ -145,28 +145,28 @@ pub fn expr(alloc: Global, reader: &mut Reader<'_, '_>) -> Result<Expr, Stopped>
     ensures moves { OnOk result (length reader.new < length reader.old) }
 {
     match first_word(reader)? {
-        Keyword::All => {
+        FilterKeyword::All => {
             reader.skip();
             let inner = braced(alloc, reader)?;
             Ok(Expr::All(inner))
         }
-        Keyword::Any => {
+        FilterKeyword::Any => {
             reader.skip();
             let inner = braced(alloc, reader)?;
             Ok(Expr::Any(inner))
         }
-        Keyword::Not => {
+        FilterKeyword::Not => {
             reader.skip();
             let inner = negated(alloc, reader)?;
             let inner = Box::new(alloc, inner)?;
             Ok(Expr::Not(inner))
         }
-        Keyword::Present => {
+        FilterKeyword::Present => {
             reader.skip();
             let path = path(alloc, reader)?;
             Ok(Expr::Present { path })
         }
-        Keyword::Is => {
+        FilterKeyword::Is => {
             reader.skip();
             let (path, op, number) = comparison(alloc, reader)?;
             Ok(Expr::Is { path, op, number })

@@ -36,5 +36,5 @@ pub use questions::Numbering;
 pub use resolving::resolve;
 pub use slot_sets::{has_slot, meets};
 pub use stop::{FilterFault, FilterStop};
-pub use syntax::{SyntaxError, read_expr};
+pub use syntax::{ExprSyntaxError, read_expr};
 pub use test::{Element, Test, Tests};

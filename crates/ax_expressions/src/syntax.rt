@@ -10,7 +10,7 @@ use std::alloc::Global;
 
 /// Why tokens spell no expression.
 #[derive(Drop)]
-pub enum SyntaxError {
+pub enum ExprSyntaxError {
     /// The first token through which no expression begins, from 0, or the count of the tokens.
     BadToken { token: u32 },
     OutOfMemory,
@@ -18,7 +18,7 @@ pub enum SyntaxError {
 
 /// The expression that the tokens spell. Where they spell none, BadToken names the first token through which none
 /// begins.
-pub fn read_expr(alloc: Global, tokens: &Tokens<'_>) -> Result<Expr, SyntaxError>
+pub fn read_expr(alloc: Global, tokens: &Tokens<'_>) -> Result<Expr, ExprSyntaxError>
     ensures spells { IfOk result (λ e. Spells tokens.now (expr_tree e)) }
     ensures bad { IfErr result (IsBad tokens.now) }
 {
@@ -26,15 +26,15 @@ pub fn read_expr(alloc: Global, tokens: &Tokens<'_>) -> Result<Expr, SyntaxError
     match expr(alloc, &mut reader) {
         Ok(e) => {
             if reader.count() > 0 {
-                return Err(SyntaxError::BadToken {
+                return Err(ExprSyntaxError::BadToken {
                     token: tokens.count() - reader.count(),
                 });
             }
             Ok(e)
         }
-        Err(Stopped::Bad) => Err(SyntaxError::BadToken {
+        Err(Stopped::Bad) => Err(ExprSyntaxError::BadToken {
             token: tokens.count() - reader.count(),
         }),
-        Err(Stopped::OutOfMemory) => Err(SyntaxError::OutOfMemory),
+        Err(Stopped::OutOfMemory) => Err(ExprSyntaxError::OutOfMemory),
     }
 }

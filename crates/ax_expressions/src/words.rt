@@ -45,7 +45,7 @@ pub fn op_in(text: &[u8]) -> Option<Op>
 
 /// The first word of an expression.
 #[derive(Clone, Copy)]
-pub enum Keyword {
+pub enum FilterKeyword {
     All,
     Any,
     Not,
@@ -53,29 +53,29 @@ pub enum Keyword {
     Is,
 }
 
-const KEYWORDS: [Keyword; 5] = [
-    Keyword::All,
-    Keyword::Any,
-    Keyword::Not,
-    Keyword::Present,
-    Keyword::Is,
+const KEYWORDS: [FilterKeyword; 5] = [
+    FilterKeyword::All,
+    FilterKeyword::Any,
+    FilterKeyword::Not,
+    FilterKeyword::Present,
+    FilterKeyword::Is,
 ];
 
 /// Whether these are the octets of the keyword.
-fn is_keyword(word: Keyword, text: &[u8]) -> bool
+fn is_keyword(word: FilterKeyword, text: &[u8]) -> bool
     ensures { result ≡ bytes_eq (keyword_text word) text.now }
 {
     let own: &[u8] = match word {
-        Keyword::All => b"all",
-        Keyword::Any => b"any",
-        Keyword::Not => b"not",
-        Keyword::Present => b"present",
-        Keyword::Is => b"is",
+        FilterKeyword::All => b"all",
+        FilterKeyword::Any => b"any",
+        FilterKeyword::Not => b"not",
+        FilterKeyword::Present => b"present",
+        FilterKeyword::Is => b"is",
     };
     own == text
 }
 
-fn first_keyword<'k>(words: &'k [Keyword], text: &[u8]) -> Option<&'k Keyword>
+fn first_keyword<'k>(words: &'k [FilterKeyword], text: &[u8]) -> Option<&'k FilterKeyword>
     ensures { option_copied result ≡ find (λ word. bytes_eq (keyword_text word) text.now) words.now }
 {
     words.iter().find(|word| is_keyword(**word, text))
@@ -83,7 +83,7 @@ fn first_keyword<'k>(words: &'k [Keyword], text: &[u8]) -> Option<&'k Keyword>
 
 /// The keyword that the text is. None comes exactly where it is none.
 #[tactic(auto, unfolding(crate::specs::Words::keyword_of))]
-pub fn keyword_in(text: &[u8]) -> Option<Keyword>
+pub fn keyword_in(text: &[u8]) -> Option<FilterKeyword>
     ensures { result ≡ keyword_of text.now }
 {
     first_keyword(&KEYWORDS, text).copied()

@@ -15,10 +15,10 @@ use Rattle.ax_fspec.specs.Reading.{entries_at}
 use Rattle.ax_codec.specs.Meaning.{meanings, linked_slots}
 use Rattle.ax_codec.specs.Table.{record_kind_at}
 use Rattle.ax_codec.specs.declared.codec.Codec.{Codec}
-use Rattle.ax_view.proofs.Found.{not_same, field_never, entries_are}
-use Rattle.ax_view.specs.Shown.{record_entries}
-use Rattle.ax_view.specs.Values.{entries_found, entries_in, value_in, value_read}
-use Rattle.ax_view.specs.declared.record.RecordView.{RecordView}
+use Rattle.ax_walk.proofs.Found.{not_same, field_never, entries_are}
+use Rattle.ax_walk.specs.Shown.{record_entries}
+use Rattle.ax_walk.specs.Values.{entries_found, entries_in, value_in, value_read}
+use Rattle.ax_walk.specs.declared.record.RecordView.{RecordView}
 use Rattle.ax_expressions.proofs.SlotSets.{marked_slot}
 use Rattle.ax_expressions.specs.Plans.{is_slot, MarkEach}
 

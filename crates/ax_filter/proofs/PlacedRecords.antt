@@ -5,11 +5,11 @@ use Rattle.ax_codec.specs.declared.codec.Codec.{Codec}
 use Rattle.ax_fspec.specs.Reading.{kind_read}
 use Rattle.ax_expressions.proofs.SlotSets.{marked_slot}
 use Rattle.ax_expressions.specs.Plans.{MarkEach}
-use Rattle.ax_view.specs.Placing.{IsPlaced, entries_there, placed_entries}
-use Rattle.ax_view.specs.Shown.{record_entries}
-use Rattle.ax_view.specs.Values.{value_in, entries_in}
-use Rattle.ax_view.specs.declared.places.PlacedSlots.{PlacedSlots}
-use Rattle.ax_view.specs.declared.record.RecordView.{RecordView}
+use Rattle.ax_walk.specs.Placing.{IsPlaced, entries_there, placed_entries}
+use Rattle.ax_walk.specs.Shown.{record_entries}
+use Rattle.ax_walk.specs.Values.{value_in, entries_in}
+use Rattle.ax_walk.specs.declared.places.PlacedSlots.{PlacedSlots}
+use Rattle.ax_walk.specs.declared.record.RecordView.{RecordView}
 
 from_front : (codec : Codec) (body : List ℕ) → entries_there codec.nodes codec.slots body 0 ≡ entries_in (value_in (record_kind_at codec.nodes codec.slots) body)
 unfolding kind_read value_in

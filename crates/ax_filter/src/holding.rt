@@ -6,7 +6,7 @@ ghost use Rattle.ax_filter.specs.Memos.{NoneLater, Recalls};
 ghost use Rattle.ax_filter.specs.OfCode.{expression, catalogue_of};
 ghost use Rattle.ax_expressions.specs.Plans.{finds, plan_tree, says};
 ghost use Rattle.ax_expressions.specs.declared.plan.Found.{Found};
-ghost use Rattle.ax_view.specs.Shown.{record_entries};
+ghost use Rattle.ax_walk.specs.Shown.{record_entries};
 
 use crate::deciding::says;
 use crate::filter::Filter;
@@ -16,7 +16,7 @@ use crate::passing::passes;
 use ax_codec::Codec;
 use ax_expressions::{CategoryPlan, FEW, Plan, asked_by, meets, said_of_none};
 use ax_format::{Record, Spec};
-use ax_view::{Notes, PlacedSlots, Places, RecordView, place_record};
+use ax_walk::{Notes, PlacedSlots, Places, RecordView, place_record};
 use std::alloc::{AllocError, Global};
 
 /// What a plan says of a record under that codec, its items found in one walk.

@@ -1,11 +1,11 @@
 //! The marked slots of a record.
 ghost use Rattle.std.specs.Prelude.{◌≡◌};
 ghost use Rattle.ax_expressions.specs.Plans.{MarkEach};
-ghost use Rattle.ax_view.specs.Shown.{record_entries};
+ghost use Rattle.ax_walk.specs.Shown.{record_entries};
 
 use ax_codec::Codec;
 use ax_fspec::{Presence, read_presence};
-use ax_view::RecordView;
+use ax_walk::RecordView;
 
 /// The marked slots of a record under that codec, read from its presence field alone.
 #[inline]

@@ -3,12 +3,12 @@ ghost use Rattle.std.specs.Prelude.{◌≡◌};
 ghost use Rattle.ax_format.specs.At.{is_present, At};
 ghost use Rattle.ax_format.specs.Plain.{record_tree};
 ghost use Rattle.ax_format.specs.Tree.{EntriesTree};
-ghost use Rattle.ax_view.specs.Placing.{IsPlaced, placed_entries};
-ghost use Rattle.ax_view.specs.Shown.{record_entries};
+ghost use Rattle.ax_walk.specs.Placing.{IsPlaced, placed_entries};
+ghost use Rattle.ax_walk.specs.Shown.{record_entries};
 
 use crate::standing;
 use ax_format::{Place, Record};
-use ax_view::{PlacedSlots, RecordView};
+use ax_walk::{PlacedSlots, RecordView};
 
 /// A record, as far as a filter asks for it. Nothing here takes memory.
 pub trait HasPlaces {

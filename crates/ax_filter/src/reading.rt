@@ -12,8 +12,8 @@ ghost use Rattle.ax_expressions.specs.FilterTokens.{IsFilterOf};
 use crate::filter::Filter;
 use ax_check::Catalogue;
 use ax_expressions::{
-    CategoryPlans, Expr, FEW, FilterError, Numbering, PathFault, SyntaxError, Test, asking_in_all,
-    count_tests, first_fault, plan_categories, read_expr, resolve,
+    CategoryPlans, Expr, ExprSyntaxError, FEW, FilterError, Numbering, PathFault, Test,
+    asking_in_all, count_tests, first_fault, plan_categories, read_expr, resolve,
 };
 use ax_tokens::Tokens;
 use std::alloc::{AllocError, Global};
@@ -99,10 +99,10 @@ pub fn read_filter<'c>(
             judge_paths(alloc, tokens, tokens.count(), catalogue)?;
             filter_of(alloc, expr, catalogue)
         }
-        Err(SyntaxError::BadToken { token }) => {
+        Err(ExprSyntaxError::BadToken { token }) => {
             judge_paths(alloc, tokens, token, catalogue)?;
             Err(FilterError::BadToken { token })
         }
-        Err(SyntaxError::OutOfMemory) => Err(FilterError::OutOfMemory),
+        Err(ExprSyntaxError::OutOfMemory) => Err(FilterError::OutOfMemory),
     }
 }

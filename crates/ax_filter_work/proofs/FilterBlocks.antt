@@ -17,7 +17,7 @@ use Rattle.ax_blocks.specs.declared.work.WorkStop.{WorkStop}
 use Rattle.ax_blocks.specs.declared.work.WorkStop.TheVariants.{Fault}
 use Rattle.ax_codec.specs.Standing.{StandForEach, codec_of}
 use Rattle.ax_codec.specs.declared.codec.Codec.{Codec}
-use Rattle.ax_view.specs.Views.{SpellsSome, FailsThere}
+use Rattle.ax_walk.specs.Views.{SpellsSome, FailsThere}
 use Rattle.ax_canon.proofs.CodecsOf.{stands_there, none_there}
 
 pub matching_within : (e : ExprTree) (codecs : List Codec) (catalogue : List SpecTree) (raw : RawTree) (codec : Codec) (count : ℕ) (output : List ℕ) → StandForEach codecs catalogue → codec_of raw.category codecs ≡ Some codec → SpellsSome codec raw.body

@@ -22,9 +22,9 @@ use Rattle.ax_format.specs.declared.fault.BodyFault.{BodyFault}
 use Rattle.ax_codec.specs.Standing.{StandsFor}
 use Rattle.ax_codec.specs.declared.codec.Codec.{Codec}
 use Rattle.ax_values.proofs.WrittenRecords.{framed_octets, body_octets}
-use Rattle.ax_view.proofs.Spelled.{record_spelled}
-use Rattle.ax_view.specs.Shown.{record_entries}
-use Rattle.ax_view.specs.declared.record.RecordView.{RecordView}
+use Rattle.ax_walk.proofs.Spelled.{record_spelled}
+use Rattle.ax_walk.specs.Shown.{record_entries}
+use Rattle.ax_walk.specs.declared.record.RecordView.{RecordView}
 use Rattle.ax_canon.proofs.LaidOctets.{octets_front, front_laid}
 
 first_same : {A : Type 0} (x y : A) → ◌≡◌ {A = List A} (x ∷ []) (y ∷ []) → x ≡ y

@@ -12,8 +12,8 @@ use Rattle.ax_format.specs.Specification.{SpecTree}
 use Rattle.ax_format.specs.Tree.{EntriesTree}
 use Rattle.ax_codec.specs.Standing.{StandsFor}
 use Rattle.ax_codec.specs.declared.codec.Codec.{Codec}
-use Rattle.ax_view.specs.Shown.{record_entries}
-use Rattle.ax_view.specs.declared.record.RecordView.{RecordView}
+use Rattle.ax_walk.specs.Shown.{record_entries}
+use Rattle.ax_walk.specs.declared.record.RecordView.{RecordView}
 
 -- the answer to a view of a record under the codec is whether the expression holds of it
 abbrev pub SaysHolds : List SpecTree → ExprTree → Codec → RecordView → Bool → Type 0

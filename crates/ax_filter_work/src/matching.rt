@@ -5,7 +5,7 @@ ghost use Rattle.ax_filter_work.specs.Laid.{SaysHolds};
 use ax_canon::Keep;
 use ax_codec::Codec;
 use ax_filter::{Filter, Memo};
-use ax_view::RecordView;
+use ax_walk::RecordView;
 
 /// Keeps the records of a codec that a filter holds of. What several of its tests ask of a record is looked for once.
 #[derive(Drop)]

@@ -4,7 +4,7 @@ ghost use Rattle.ax_bits.specs.Bits.{bits};
 ghost use Rattle.ax_filter.specs.OfCode.{expression, catalogue_of};
 ghost use Rattle.ax_filter_work.specs.Laid.{LaysMatching, LaysMatchingBits};
 ghost use Rattle.ax_format.specs.Sizes.{longest_block, longest_body};
-ghost use Rattle.ax_view.specs.Views.{FailsThere, SpellsSome};
+ghost use Rattle.ax_walk.specs.Views.{FailsThere, SpellsSome};
 
 use crate::matching::Matching;
 use ax_bits::Out;

@@ -21,7 +21,7 @@ use ax_tokens::Stopped;
 use std::alloc::Global;
 
 /// What a rule reads several times in braces.
-trait Element: Sized + Drop {
+trait Braced: Sized + Drop {
     /// What contracts see of it.
     ghost Tree: { Type 0 };
 
@@ -70,7 +70,7 @@ impl<'r, 't> SpecReader<'r, 't> {
     }
 
     /// Elements in braces.
-    fn braced<E: Element>(&mut self, alloc: Global) -> Result<Sequence<E>, Stopped>
+    fn braced<E: Braced>(&mut self, alloc: Global) -> Result<Sequence<E>, Stopped>
         requires { LeavesLess E.rule }
         ensures { Gives (λ elements. map E.tree elements) result self.new (braced_at E.rule self.old) }
     {
@@ -286,7 +286,7 @@ impl<'r, 't> SpecReader<'r, 't> {
     }
 }
 
-impl Element for TableText {
+impl Braced for TableText {
     ghost Tree = { Table.TableText };
 
     ghost tree = { λ entry. entry };
@@ -301,7 +301,7 @@ impl Element for TableText {
     }
 }
 
-impl Element for Part {
+impl Braced for Part {
     ghost Tree = { MembersTree };
 
     ghost tree = { part_tree };
@@ -316,7 +316,7 @@ impl Element for Part {
     }
 }
 
-impl Element for Item {
+impl Braced for Item {
     ghost Tree = { ItemTree };
 
     ghost tree = { item_tree };
@@ -333,7 +333,7 @@ impl Element for Item {
     }
 }
 
-impl Element for UapSlot {
+impl Braced for UapSlot {
     ghost Tree = { Uap.UapSlot };
 
     ghost tree = { λ slot. slot };

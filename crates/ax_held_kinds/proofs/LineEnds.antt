@@ -4,10 +4,10 @@ use Rattle.std.proofs.lemmas.List.{get_or_append_left, get_or_push, get_or_defau
 use Rattle.std.proofs.lemmas.Bool.{cases_lt}
 use Rattle.ax_format.specs.Paths.{at}
 use Rattle.ax_format.specs.declared.content.Content.{Content}
-use Rattle.ax_text.specs.Printing.{as_lines, Puts}
-use Rattle.ax_text.specs.Remarks.{remark}
-use Rattle.ax_text.specs.ShowText.{number_line}
-use Rattle.ax_text.specs.ValueText.{one_onto}
+use Rattle.ax_text_form.specs.Printing.{as_lines, Puts}
+use Rattle.ax_text_form.specs.Remarks.{remark}
+use Rattle.ax_text_form.specs.ShowText.{number_line}
+use Rattle.ax_text_form.specs.ValueText.{one_onto}
 use Rattle.ax_held_kinds.specs.Lines.{line_end, line_ends}
 
 -- a line that was put under an empty path on an empty listing

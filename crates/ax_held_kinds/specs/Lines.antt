@@ -3,8 +3,8 @@ use Rattle.std.specs.Prelude.{ℕ, zero, suc, List, [], ◌∷◌, ◌++◌}
 use Rattle.ax_format.specs.Paths.{at}
 use Rattle.ax_format.specs.declared.content.Content.{Content}
 use Rattle.ax_tokens.specs.Octets.{line_feed}
-use Rattle.ax_text.specs.Remarks.{remark}
-use Rattle.ax_text.specs.ShowText.{number_line}
+use Rattle.ax_text_form.specs.Remarks.{remark}
+use Rattle.ax_text_form.specs.ShowText.{number_line}
 
 -- the line of an element of that name, of w bits that spell n, without the path above the name
 abbrev pub line_end : List ℕ → ℕ → Content → ℕ → List ℕ

@@ -18,4 +18,4 @@ pub use kinds::{
     HeldContent, HeldFixed, HeldKind, HeldMember, HeldMembers, HeldPart, HeldParts, HeldSlot,
     HeldSlots,
 };
-pub use lines::{HeldQuantity, LineMaker, Lines, ShortElement};
+pub use lines::{HeldQuantity, LineMaker, NumberLines, ShortElement};

@@ -5,17 +5,17 @@ ghost use Rattle.ax_format.specs.InBounds.{IsWidth};
 ghost use Rattle.ax_format.specs.Plain.{fixed_tree};
 ghost use Rattle.ax_format.specs.Tree.{element};
 ghost use Rattle.ax_format.specs.declared.content.Content.TheVariants.{Quantity};
-ghost use Rattle.ax_text.specs.FractionEnds.{fraction_end, fraction_ends};
-ghost use Rattle.ax_text.specs.Listable.{ContentListable};
+ghost use Rattle.ax_text_form.specs.FractionEnds.{fraction_end, fraction_ends};
+ghost use Rattle.ax_text_form.specs.Listable.{ContentListable};
 
 use ax_format::{Content, Fixed, Name, Scale};
 use ax_lists::Sequence;
 use ax_octets::Literal;
-use ax_text::Lister;
+use ax_text_form::Lister;
 use std::alloc::{AllocError, Global};
 
 /// The lines of the numbers of an element, from 0 on, each without the path above the element's name.
-pub type Lines = Sequence<Literal>;
+pub type NumberLines = Sequence<Literal>;
 
 /// An element of few bits that is a member of that name, with its lines.
 #[derive(Drop)]
@@ -23,7 +23,7 @@ pub struct ShortElement<'s> {
     pub name: Name,
     pub width: u32,
     pub content: &'s Content,
-    pub lines: Lines,
+    pub lines: NumberLines,
     ghost few: { width ≤ 7 },
     ghost made: { lines ≡ line_ends name width content.now (2 ^ width) },
 }
@@ -34,7 +34,7 @@ pub struct ShortElement<'s> {
 pub struct HeldQuantity<'s> {
     pub content: &'s Content,
     pub scale: &'s Scale,
-    pub ends: Lines,
+    pub ends: NumberLines,
     ghost same: { content.now ≡ Quantity scale.now },
     ghost made: { ends ≡ fraction_ends scale.now.unit scale.now.den (length ends) },
 }
@@ -125,7 +125,7 @@ impl LineMaker {
         name: &Name,
         width: u32,
         content: &Content,
-    ) -> Result<Option<Lines>, AllocError>
+    ) -> Result<Option<NumberLines>, AllocError>
         requires width { (1 ≤ width) × (width ≤ 7) }
         requires content { ContentListable width content.now }
         ensures { IfOk result (λ found. IfSome found (λ lines. lines ≡ line_ends name.now width content.now (2 ^ width))) }
@@ -134,7 +134,7 @@ impl LineMaker {
         if !self.take(count) {
             return Ok(None);
         }
-        let mut lines = Lines::with_capacity(alloc, count)?;
+        let mut lines = NumberLines::with_capacity(alloc, count)?;
         for number in 0..count {
             match self.line(name, width, content, u64::from(number))? {
                 Some(line) => lines.push(line)?,
@@ -195,11 +195,11 @@ impl LineMaker {
     }
 
     /// Those of a denominator and its halves, where it is a power of two and as far as they are made.
-    #[tactic(auto, using(ax_text::proofs::QuantityLines::makes))]
-    fn fraction_ends(&mut self, alloc: Global, scale: &Scale) -> Result<Lines, AllocError>
+    #[tactic(auto, using(ax_text_form::proofs::QuantityLines::makes))]
+    fn fraction_ends(&mut self, alloc: Global, scale: &Scale) -> Result<NumberLines, AllocError>
         ensures { IfOk result (λ ends. ends ≡ fraction_ends scale.now.unit scale.now.den (length ends)) }
     {
-        let mut ends = Lines::new(alloc);
+        let mut ends = NumberLines::new(alloc);
         if !scale.den.is_power_of_two() {
             return Ok(ends);
         }

@@ -23,7 +23,7 @@ use Rattle.ax_app.proofs.GivenOnce.{line_ends_for_memory, line_ends_once}
 use Rattle.ax_app.proofs.Once.{does_once, IsGood, good_job}
 use Rattle.ax_app.specs.Answer.{Answer, by_words, by_files, by_refusal, by_job}
 use Rattle.ax_app.specs.Given.{LineGives, LineEnds}
-use Rattle.ax_app.specs.Jobs.{Job, writes, each_block, builds, salvages, refuses, JobAnswers}
+use Rattle.ax_app.specs.Jobs.{CommandJob, writes, each_block, builds, salvages, refuses, JobAnswers}
 use Rattle.ax_app.specs.Running.{Does, StopsAtFiles}
 use Rattle.ax_app.specs.Salvages.{outcome_of_salvage}
 
@@ -36,7 +36,7 @@ none_rose (inr r) = omega arith
 abbrev Same : Outcome → Outcome → List ℕ → List ℕ → List ℕ → List ℕ → Type 0
 Same outcome next written others reported more = (outcome ≡ next) × (written ≡ others) × (reported ≡ more)
 
-same_job : (job : Job) (input : List ℕ) (outcome next : Outcome) (written others reported more : List ℕ) → IsGood job → JobAnswers job input outcome written reported → JobAnswers job input next others more → Same outcome next written others reported more
+same_job : (job : CommandJob) (input : List ℕ) (outcome next : Outcome) (written others reported more : List ℕ) → IsGood job → JobAnswers job input outcome written reported → JobAnswers job input next others more → Same outcome next written others reported more
 same_job (writes count text) input outcome next written others reported more good h k = (h.done ∙ sym k.done, h.written_is ∙ sym k.written_is, h.reported_is ∙ sym k.reported_is)
 same_job (each_block c) input outcome next written others reported more good h k =
     let same : (h.end ≡ k.end) × (h.blocks ≡ k.blocks) = answers_once c longest_input input h.blocks k.blocks h.end k.end h.answers k.answers in
@@ -53,7 +53,7 @@ same_job (refuses refusal) input outcome next written others reported more good 
 refusal_once : (refusal next : Refusal) → refuses refusal ≡ refuses next → refusal ≡ next
 refusal_once refusal next e = cc
 
-refused_or_done : (words : List (List ℕ)) (files : List File) (input : List ℕ) (refusal : Refusal) (job : Job) (outcome : Outcome) (written reported : List ℕ) → Does words (Some files) (refuses refusal) → Does words (Some files) job → JobAnswers job input outcome written reported → ⊥
+refused_or_done : (words : List (List ℕ)) (files : List File) (input : List ℕ) (refusal : Refusal) (job : CommandJob) (outcome : Outcome) (written reported : List ℕ) → Does words (Some files) (refuses refusal) → Does words (Some files) job → JobAnswers job input outcome written reported → ⊥
 refused_or_done words files input refusal job outcome written reported d k h = subst (λ j. JobAnswers j input outcome written reported) (does_once words files job (refuses refusal) k d) h
 
 same_refusal : (words : List (List ℕ)) (files : List File) (refusal next : Refusal) (outcome other : Outcome) (written others reported more : List ℕ) → Does words (Some files) (refuses refusal) → Does words (Some files) (refuses next)
@@ -71,7 +71,7 @@ same_files words files stop next outcome other written others reported more h k 
     let ends : LineEnds h.what (Some files) none_counted next = subst (λ v. LineEnds v (Some files) none_counted next) (sym same) k.ends in
     (is ∙ ap outcome_of_stop (line_ends_once h.what files none_counted stop next none_rose never nor h.ends ends) ∙ sym to, w, r)
 
-files_or_job : (words : List (List ℕ)) (files : List File) (stop : LoadStop) (job : Job) → StopsAtFiles words (Some files) none_counted stop → (stop ≡ LoadStopOf.OutOfMemory → ⊥) → Does words (Some files) job → ⊥
+files_or_job : (words : List (List ℕ)) (files : List File) (stop : LoadStop) (job : CommandJob) → StopsAtFiles words (Some files) none_counted stop → (stop ≡ LoadStopOf.OutOfMemory → ⊥) → Does words (Some files) job → ⊥
 files_or_job words files stop job h never d =
     let same = shape_once words d.what h.what d.shape h.shape in
     never (line_ends_for_memory h.what files none_counted d.given stop none_rose (subst (λ v. LineGives v (Some files) d.given) same d.give) h.ends)

@@ -3,7 +3,7 @@ use Rattle.std.proofs.Common.{◌≡◌, ℕ, ◌+◌, ◌<◌, ◌≤◌, List,
 use Rattle.std.specs.Prelude.{codes}
 use Rattle.ax_bits.specs.Bits.{AreOctets}
 use Rattle.ax_block_reader.specs.BlockTexts.{block_texts, canonical_length, Spells}
-use Rattle.ax_text.specs.CatalogueBlocks.{IsBlockOf}
+use Rattle.ax_text_form.specs.CatalogueBlocks.{IsBlockOf}
 use Rattle.ax_build_work.specs.BuildCommand.{build_command, by_tokens, deepest, IsBuiltOf}
 use Rattle.ax_lines.specs.Commands.{gives}
 use Rattle.ax_format.proofs.CanonFramed.{length-framed}
@@ -12,10 +12,10 @@ use Rattle.ax_format.specs.CanonicalOctets.{canon_over, framed}
 use Rattle.ax_format.specs.Paths.{three_digits}
 use Rattle.ax_format.specs.Specification.{SpecTree, spec_of}
 use Rattle.ax_format.specs.Streams.{FitsOver}
-use Rattle.ax_text.proofs.WordTokens.{IsWord, category_word, opaque_is_word, hex_token}
-use Rattle.ax_text.specs.BlockText.{OpaqueText, spaced_texts}
-use Rattle.ax_text.specs.Tokens.{kind_of, printed_tokens, TextOver}
-use Rattle.ax_text.specs.ValueText.{Texts, hex_text}
+use Rattle.ax_text_form.proofs.WordTokens.{IsWord, category_word, opaque_is_word, hex_token}
+use Rattle.ax_text_form.specs.BlockText.{OpaqueText, spaced_texts}
+use Rattle.ax_text_form.specs.Tokens.{kind_of, printed_tokens, TextOver}
+use Rattle.ax_text_form.specs.ValueText.{Texts, hex_text}
 use Rattle.ax_tokens.specs.Stopping.{texts_of}
 use Rattle.ax_tokens.proofs.Levels.{keeps_within}
 use Rattle.ax_tokens.proofs.Printed.{printed_text}

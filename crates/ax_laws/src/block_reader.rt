@@ -6,15 +6,15 @@ ghost use Rattle.ax_format.specs.CanonicalOctets.{category_of};
 ghost use Rattle.ax_format.specs.Flaws.{NoFlaw};
 ghost use Rattle.ax_format.specs.Specification.{SpecTree, spec_of};
 ghost use Rattle.ax_tokens.specs.PlainToken.{PlainToken};
-ghost use Rattle.ax_text.specs.BlockText.{BlockText};
-ghost use Rattle.ax_text.specs.Names.{IsNamed};
-ghost use Rattle.ax_text.specs.Tokens.{BlockTokens};
+ghost use Rattle.ax_text_form.specs.BlockText.{BlockText};
+ghost use Rattle.ax_text_form.specs.Names.{IsNamed};
+ghost use Rattle.ax_text_form.specs.Tokens.{BlockTokens};
 ghost use Rattle.ax_block_reader.specs.BlockTexts.{block_texts, Spells, IsTextOf, IsFault};
-ghost use Rattle.ax_text.specs.CatalogueBlocks.{IsBlockOf};
+ghost use Rattle.ax_text_form.specs.CatalogueBlocks.{IsBlockOf};
 ghost use Rattle.ax_block_reader.specs.declared.error.TextError.{TextError};
 ghost use Rattle.ax_block_reader.specs.declared.error.TextError.TheVariants as Fault;
 
-/// What is read is what was printed: the texts of the language are those that `ax_text` prints for the blocks that fit
+/// What is read is what was printed: the texts of the language are those that `ax_text_form` prints for the blocks that fit
 /// the catalogue, and the tokens of a block's line spell that block.
 pub fn printed_texts_are_read()
     ensures texts { (catalogue : List SpecTree) (spec : SpecTree) (block : BlockTree)

@@ -2,7 +2,7 @@
 ghost use Rattle.std.specs.Prelude.{◌≡◌, ℕ, ◌≤◌, List, Some};
 ghost use Rattle.std.specs.List.{AllByRecursion};
 ghost use Rattle.ax_block_reader.specs.BlockTexts.{canonical_length};
-ghost use Rattle.ax_text.specs.CatalogueBlocks.{IsBlockOf};
+ghost use Rattle.ax_text_form.specs.CatalogueBlocks.{IsBlockOf};
 ghost use Rattle.ax_build_work.specs.BuildCommand.{build_command, deepest};
 ghost use Rattle.ax_lines.specs.Commands.{gives, HasOneAnswer};
 ghost use Rattle.ax_format.specs.Blocks.{BlockTree};
@@ -10,8 +10,8 @@ ghost use Rattle.ax_format.specs.CanonicalOctets.{canon_block, category_of};
 ghost use Rattle.ax_format.specs.Flaws.{NoFlaw};
 ghost use Rattle.ax_format.specs.Sizes.{longest_block};
 ghost use Rattle.ax_format.specs.Specification.{SpecTree, spec_of};
-ghost use Rattle.ax_text.specs.Names.{IsNamed};
-ghost use Rattle.ax_text.specs.Tokens.{BlockTokens};
+ghost use Rattle.ax_text_form.specs.Names.{IsNamed};
+ghost use Rattle.ax_text_form.specs.Tokens.{BlockTokens};
 ghost use Rattle.ax_tokens.specs.Lexing.{AreTokensOf};
 
 /// Under specifications without flaw whose names are names, no line has two answers.

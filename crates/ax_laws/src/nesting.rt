@@ -7,8 +7,8 @@ ghost use Rattle.ax_format.specs.Flaws.{NoFlaw};
 ghost use Rattle.ax_format.specs.Specification.{SpecTree};
 ghost use Rattle.ax_tokens.specs.Depth.{IsWithin};
 ghost use Rattle.ax_tokens.specs.Lexing.{AreTokensOf};
-ghost use Rattle.ax_text.specs.BlockText.{BlockLine};
-ghost use Rattle.ax_text.specs.Tokens.{HoldsBlock, BlockTokens, block_nesting};
+ghost use Rattle.ax_text_form.specs.BlockText.{BlockLine};
+ghost use Rattle.ax_text_form.specs.Tokens.{HoldsBlock, BlockTokens, block_nesting};
 
 /// Where the braces of a category file nest at most 16 deep, those of its blocks' texts nest at most 18 deep: around an
 /// item's kind a file has one brace and a block two, and a by-FX item has braces in a block alone. So a line that was

@@ -6,7 +6,7 @@ ghost use Rattle.ax_lines.specs.Commands.{gives};
 ghost use Rattle.ax_format.specs.CanonicalOctets.{framed};
 ghost use Rattle.ax_format.specs.Sizes.{longest_block};
 ghost use Rattle.ax_format.specs.Specification.{SpecTree, spec_of};
-ghost use Rattle.ax_text.specs.BlockText.{OpaqueText, spaced_texts};
+ghost use Rattle.ax_text_form.specs.BlockText.{OpaqueText, spaced_texts};
 
 /// The line that `text` prints of a block whose category has no specification is built into that block again, where it is no longer
 /// than a block may be.

@@ -7,9 +7,9 @@ ghost use Rattle.ax_format.specs.Flaws.{NoFlaw};
 ghost use Rattle.ax_format.specs.Specification.{SpecTree, spec_of};
 ghost use Rattle.ax_tokens.specs.Depth.{IsWithin};
 ghost use Rattle.ax_tokens.specs.Lexing.{AreTokensOf};
-ghost use Rattle.ax_text.specs.BlockText.{BlockLine};
-ghost use Rattle.ax_text.specs.Names.{IsNamed};
-ghost use Rattle.ax_text.specs.Tokens.{TextOver, IsOfCatalogue, HoldsBlock, BlockTokens, block_nesting};
+ghost use Rattle.ax_text_form.specs.BlockText.{BlockLine};
+ghost use Rattle.ax_text_form.specs.Names.{IsNamed};
+ghost use Rattle.ax_text_form.specs.Tokens.{TextOver, IsOfCatalogue, HoldsBlock, BlockTokens, block_nesting};
 
 /// Under one catalogue of specifications without flaw the text of a block determines it.
 pub fn block_text_once()

@@ -2,11 +2,11 @@
 ghost use Rattle.std.specs.Prelude.{◌≡◌, [], ◌∷◌, ◌++◌, codes};
 ghost use Rattle.ax_format.specs.declared.content.Content.TheVariants.{Table, Ascii, Icao, Octal, Integer};
 ghost use Rattle.ax_format.specs.declared.content.Sign.TheVariants.{Signed, Unsigned};
-ghost use Rattle.ax_text.specs.BlockText.{BlockLine};
+ghost use Rattle.ax_text_form.specs.BlockText.{BlockLine};
 ghost use Rattle.ax_laws.specs.TextExamples.{quarters, small, small_block};
-ghost use Rattle.ax_text.specs.Printing.{as_lines};
-ghost use Rattle.ax_text.specs.Remarks.{quoted, remark};
-ghost use Rattle.ax_text.specs.ShowText.{ShowText};
+ghost use Rattle.ax_text_form.specs.Printing.{as_lines};
+ghost use Rattle.ax_text_form.specs.Remarks.{quoted, remark};
+ghost use Rattle.ax_text_form.specs.ShowText.{ShowText};
 
 /// The line of a block of three records.
 pub fn line_of_a_block()

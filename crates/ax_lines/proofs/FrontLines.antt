@@ -2,8 +2,8 @@
 use Rattle.std.proofs.Common.{◌≡◌, ℕ, suc, ◌+◌, ◌-◌, ◌<◌, ◌≤◌, List, [], ◌∷◌, ◌++◌, Option, Some, None, length, refl, sym, ◌∙◌, ap, subst, arith, append_assoc, length-append, inl, inr}
 use Rattle.ax_lines.specs.Lined.{LinedEnd, end, IsNextLine, IsJustNextLine}
 use Rattle.ax_lines.specs.Reader.{ReaderState, IsOpen, OnTold, ShowsLine, read_ahead, ahead, IsToldLine, GivesLine, FindsEnd, StopsInLine}
-use Rattle.ax_lines.specs.declared.reader.Ended.{Ended}
-use Rattle.ax_lines.specs.declared.reader.Ended.TheVariants.{EndOfInput}
+use Rattle.ax_lines.specs.declared.reader.EndedLines.{EndedLines}
+use Rattle.ax_lines.specs.declared.reader.EndedLines.TheVariants.{EndOfInput}
 use Rattle.ax_lines.proofs.Begins.{begins_snoc, begins_end, left_of_ahead, IsPartOf, part_of_taken, left_of_part, none_left}
 use Rattle.ax_lines.proofs.Results.{output_snoc, results_snoc, feeds_snoc, answered_snoc, length_snoc}
 use Rattle.ax_endpoints.proofs.Gains.{both, gains_both, gains_on, gains_part}
@@ -20,7 +20,7 @@ use Rattle.ax_endpoints.specs.Told.{with_front, with_end, IsAtEnd}
 
 -- the input began with lines that are answered, whose results were written; `following` are the octets that aren't given yet.
 -- Where the reader goes on each line has its line feed
-pub record SoFar {F : Type 0} (c : LineCommand F) (line_limit limit : ℕ) (input : List ℕ) (following : Option (List ℕ)) (ended : Option Ended) (o : SinkChange) (given number count : ℕ) : Type 0 where
+pub record SoFar {F : Type 0} (c : LineCommand F) (line_limit limit : ℕ) (input : List ℕ) (following : Option (List ℕ)) (ended : Option EndedLines) (o : SinkChange) (given number count : ℕ) : Type 0 where
   pub lines : List (List ℕ)
   pub answers : List (LineAnswer F)
   pub rest : List ℕ
@@ -32,7 +32,7 @@ pub record SoFar {F : Type 0} (c : LineCommand F) (line_limit limit : ℕ) (inpu
   pub fed : ended ≡ None → input ≡ with_feeds lines ++ rest
 
 -- no line so far
-pub nothing_so_far : {F : Type 0} (c : LineCommand F) (line_limit limit : ℕ) (input held : List ℕ) (left : Option (List ℕ)) (ended : Option Ended) (o : SinkChange) (given : ℕ) → held ≡ [] → left ≡ Some input → given ≡ 0 → Gains o [] → SoFar c line_limit limit input (ahead held left) ended o given 0 0
+pub nothing_so_far : {F : Type 0} (c : LineCommand F) (line_limit limit : ℕ) (input held : List ℕ) (left : Option (List ℕ)) (ended : Option EndedLines) (o : SinkChange) (given : ℕ) → held ≡ [] → left ≡ Some input → given ≡ 0 → Gains o [] → SoFar c line_limit limit input (ahead held left) ended o given 0 0
 nothing_so_far c line_limit limit input held left ended o given none l z out = record {
   lines = [];
   answers = [];
@@ -61,18 +61,18 @@ told_at : (P : List ℕ → Type 0) (t : Option (List ℕ)) (x : List ℕ) → t
 told_at P t x e h = subst (λ l. OnTold l P) e h
 
 -- a line takes an octet at least
-pub shown_longer : (line_limit limit given : ℕ) (octets one after : List ℕ) (left : Option (List ℕ)) (ended : Option Ended) → ShowsLine line_limit limit given octets left one after ended → length after < length octets
+pub shown_longer : (line_limit limit given : ℕ) (octets one after : List ℕ) (left : Option (List ℕ)) (ended : Option EndedLines) → ShowsLine line_limit limit given octets left one after ended → length after < length octets
 shown_longer line_limit limit given octets one after left ended (inl (h, open_)) = let e : length octets ≡ length one + suc (length after) = ap length h.split ∙ length-append one (10 ∷ after) in omega arith
 shown_longer line_limit limit given octets one after left ended (inr (h, at_end, is)) =
     let e : length octets ≡ length one = ap length h.split in let f : length after ≡ 0 = ap length h.none_following in let g : 0 < length one = h.some in omega arith
 
 -- a line after which the reader goes on has its line feed
-shown_fed : (line_limit limit given : ℕ) (octets one after : List ℕ) (left : Option (List ℕ)) (ended : Option Ended) → ended ≡ None → ShowsLine line_limit limit given octets left one after ended → octets ≡ one ++ (10 ∷ after)
+shown_fed : (line_limit limit given : ℕ) (octets one after : List ℕ) (left : Option (List ℕ)) (ended : Option EndedLines) → ended ≡ None → ShowsLine line_limit limit given octets left one after ended → octets ≡ one ++ (10 ∷ after)
 shown_fed line_limit limit given octets one after left ended none (inl (h, open_)) = h.split
-shown_fed line_limit limit given octets one after left ended none (inr (h, at_end, is)) = absurd (let e : ◌≡◌ {A = Option Ended} None (Some EndOfInput) = sym none ∙ is in cc)
+shown_fed line_limit limit given octets one after left ended none (inr (h, at_end, is)) = absurd (let e : ◌≡◌ {A = Option EndedLines} None (Some EndOfInput) = sym none ∙ is in cc)
 
 -- a line with its line feed leaves the reader open
-fed_open : (line_limit limit given : ℕ) (octets rest later one after held : List ℕ) (left : Option (List ℕ)) (ended : Option Ended) → rest ≡ octets ++ later → left ≡ Some later → rest ≡ one ++ (10 ∷ after)
+fed_open : (line_limit limit given : ℕ) (octets rest later one after held : List ℕ) (left : Option (List ℕ)) (ended : Option EndedLines) → rest ≡ octets ++ later → left ≡ Some later → rest ≡ one ++ (10 ∷ after)
     → ShowsLine line_limit limit given octets left one held ended → ended ≡ None
 fed_open line_limit limit given octets rest later one after held left ended split is fed (inl (h, open_)) = open_
 fed_open line_limit limit given octets rest later one after held left ended split is fed (inr (h, at_end, e)) =
@@ -140,7 +140,7 @@ module _ {F : Type 0} (c : LineCommand F) (line_limit limit : ℕ) (input : List
 
   -- ---- a line is given
 
-  module _ (given' : ℕ) (held' : List ℕ) (ended' : Option Ended) (one : List ℕ) (g : GivesLine reader.line_limit reader.limit reader.given reader.buffered j given' held' ended' one) where
+  module _ (given' : ℕ) (held' : List ℕ) (ended' : Option EndedLines) (one : List ℕ) (g : GivesLine reader.line_limit reader.limit reader.given reader.buffered j given' held' ended' one) where
     -- it comes next, and what is after it is told
     told_line : IsToldLine line_limit limit reader.given s.rest (ahead held' j.left') one
     told_line =

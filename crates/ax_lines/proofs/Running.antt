@@ -4,8 +4,8 @@ use Rattle.std.specs.Borrow.{Bor}
 use Rattle.ax_lines.specs.Lined.{LinedEnd, all_lines, end, input_too_long, line_too_long}
 use Rattle.ax_lines.specs.Reader.{FindsEnd, GivesLine, IsAfter, IsOpen, OnEnd, OnReadFault, OnTooLong, ReaderState, ShowsLine, StopsInLine, UnlessReadFault, ahead, ended_by, line_read}
 use Rattle.ax_lines.proofs.LinedOnce.{next_once}
-use Rattle.ax_lines.specs.declared.reader.Ended.{Ended}
-use Rattle.ax_lines.specs.declared.reader.Ended.TheVariants.{EndOfInput, Refused as RefusedBy}
+use Rattle.ax_lines.specs.declared.reader.EndedLines.{EndedLines}
+use Rattle.ax_lines.specs.declared.reader.EndedLines.TheVariants.{EndOfInput, Refused as RefusedBy}
 use Rattle.ax_lines.specs.declared.line_error.LineError.{LineError}
 use Rattle.ax_lines.specs.declared.line_error.LineError.TheVariants.{InputTooLong, LineTooLong, ReadFault}
 use Rattle.ax_endpoints.proofs.Gains.{both, gains_none}
@@ -57,7 +57,7 @@ pub record Joins (i j : SourceChange) : Type 0 where
   pub faults : j.faults ≡ i.faults'
 
 -- how the reader goes on after a line
-shown_going : (line_limit limit given : ℕ) (octets one after : List ℕ) (left : Option (List ℕ)) (ended : Option Ended) (reader : ReaderState) → reader.ended ≡ ended → reader.buffered ≡ after → ShowsLine line_limit limit given octets left one after ended
+shown_going : (line_limit limit given : ℕ) (octets one after : List ℕ) (left : Option (List ℕ)) (ended : Option EndedLines) (reader : ReaderState) → reader.ended ≡ ended → reader.buffered ≡ after → ShowsLine line_limit limit given octets left one after ended
     → IsOpen reader ⊎ HasEnded reader left
 shown_going line_limit limit given octets one after left ended reader is held (inl (h, open_)) = inl (is ∙ open_)
 shown_going line_limit limit given octets one after left ended reader is held (inr (h, at_end, e)) = inr (record { ended = is ∙ e; none_held = held ∙ h.none_following; at_end = at_end })
@@ -172,7 +172,7 @@ module _ {F : Type 0} (c : LineCommand F) (line_limit limit : ℕ) (i : SourceCh
 
   -- ---- a line is given
 
-  module _ (given' : ℕ) (held' : List ℕ) (ended' : Option Ended) (one : List ℕ) (g : GivesLine reader.line_limit reader.limit reader.given reader.buffered j given' held' ended' one) where
+  module _ (given' : ℕ) (held' : List ℕ) (ended' : Option EndedLines) (one : List ℕ) (g : GivesLine reader.line_limit reader.limit reader.given reader.buffered j given' held' ended' one) where
     -- where the reader stands then
     pub stands_told : (reader' : ReaderState) → reader'.buffered ≡ held' → reader'.ended ≡ ended' → (input : List ℕ) → i.left ≡ Some input → StandsAfter line_limit limit input j.left' reader' number
     stands_told reader' held ended_is input l = stands_after c line_limit limit input o reader number count run.line_limit_is run.limit_is j (front input l) given' held' ended' one g reader' held ended_is
@@ -246,12 +246,12 @@ module _ {F : Type 0} (c : LineCommand F) (line_limit limit : ℕ) (i : SourceCh
             told = λ input l.
                 (let P : ℕ → Type 0 = λ n. SoFar c line_limit limit input (ahead reader'.buffered j.left') reader'.ended (both o s) n (number + 1) (count + results) in
                 let Q : List ℕ → Type 0 = λ h. SoFar c line_limit limit input (ahead h j.left') reader'.ended (both o s) given' (number + 1) (count + results) in
-                let E : Option Ended → Type 0 = λ x. SoFar c line_limit limit input (ahead held' j.left') x (both o s) given' (number + 1) (count + results) in
+                let E : Option EndedLines → Type 0 = λ x. SoFar c line_limit limit input (ahead held' j.left') x (both o s) given' (number + 1) (count + results) in
                 subst P (sym given_is) (subst Q (sym held_is) (subst E (sym ended_is) (line_more c line_limit limit input o reader number count run.line_limit_is run.limit_is j (front input l) given' held' ended' one g s writes results opened w'))));
             taken =
                 (let P : ℕ → Type 0 = λ n. TakenSoFar c line_limit limit (read_on i j) reader'.buffered reader'.ended (both o s) n (number + 1) (count + results) in
                 let Q : List ℕ → Type 0 = λ h. TakenSoFar c line_limit limit (read_on i j) h reader'.ended (both o s) given' (number + 1) (count + results) in
-                let E : Option Ended → Type 0 = λ x. TakenSoFar c line_limit limit (read_on i j) held' x (both o s) given' (number + 1) (count + results) in
+                let E : Option EndedLines → Type 0 = λ x. TakenSoFar c line_limit limit (read_on i j) held' x (both o s) given' (number + 1) (count + results) in
                 subst P (sym given_is) (subst Q (sym held_is) (subst E (sym ended_is) (taken_more c line_limit limit i o reader number count run.line_limit_is run.limit_is within run.taken j joins.left joins.taken opened given' held' ended' one g s writes results w'))));
           }
 
@@ -270,12 +270,12 @@ none_again Q reader left result h again = subst (λ x. IfSome x (λ ended. (ende
 pub line_opens : (Q : Type 0) (reader : ReaderState) (left : Option (List ℕ)) (result : Result (Option (Bor (List ℕ))) LineError) (one : Bor (List ℕ)) → result ≡ Ok (Some one) → IsOpen reader ⊎ HasEnded reader left
     → IfSome reader.ended (λ ended. (ended_by result ≡ Some ended) × Q) → IsOpen reader
 line_opens Q reader left result one e (inl h) again = h
-line_opens Q reader left result one e (inr h) again = absurd (let x : ◌≡◌ {A = Option Ended} None (Some EndOfInput) = sym (ap ended_by e) ∙ (none_again Q reader left result h again).0 in cc)
+line_opens Q reader left result one e (inr h) again = absurd (let x : ◌≡◌ {A = Option EndedLines} None (Some EndOfInput) = sym (ap ended_by e) ∙ (none_again Q reader left result h again).0 in cc)
 
 pub refusal_opens : (Q : Type 0) (reader : ReaderState) (left : Option (List ℕ)) (result : Result (Option (Bor (List ℕ))) LineError) (error : LineError) → result ≡ Err error → IsOpen reader ⊎ HasEnded reader left
     → IfSome reader.ended (λ ended. (ended_by result ≡ Some ended) × Q) → IsOpen reader
 refusal_opens Q reader left result error e (inl h) again = h
-refusal_opens Q reader left result error e (inr h) again = absurd (let x : ◌≡◌ {A = Option Ended} (Some (RefusedBy error)) (Some EndOfInput) = sym (ap ended_by e) ∙ (none_again Q reader left result h again).0 in cc)
+refusal_opens Q reader left result error e (inr h) again = absurd (let x : ◌≡◌ {A = Option EndedLines} (Some (RefusedBy error)) (Some EndOfInput) = sym (ap ended_by e) ∙ (none_again Q reader left result h again).0 in cc)
 
 -- the source has ended, and nothing is held
 end_stands : (line_limit limit given taken faults faults' : ℕ) (left : Option (List ℕ)) → given ≤ limit → IsAtEnd left → FindsEnd line_limit limit given [] (record { left = left; left' = left; taken = taken; taken' = taken; faults = faults; faults' = faults' }) all_lines

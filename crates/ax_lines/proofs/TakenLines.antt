@@ -2,7 +2,7 @@
 use Rattle.std.proofs.Common.{List, None, Option, Some, [], ap, append-nil, append_assoc, arith, inl, inr, length, length-append, refl, subst, sym, ℕ, ◌++◌, ◌+◌, ◌∙◌, ◌∷◌, ◌≡◌, ◌≤◌}
 use Rattle.ax_lines.specs.Lined.{IsJustNextLine, LinedEnd, all_lines, end, input_too_long, line, line_too_long}
 use Rattle.ax_lines.specs.Reader.{FindsEnd, GivesLine, IsOpen, ReaderState, Shows, ShowsLine, StopsInLine, ahead}
-use Rattle.ax_lines.specs.declared.reader.Ended.{Ended}
+use Rattle.ax_lines.specs.declared.reader.EndedLines.{EndedLines}
 use Rattle.ax_endpoints.proofs.Gains.{both}
 use Rattle.ax_lines.specs.Commands.{LineCommand}
 use Rattle.ax_lines.specs.Ending.{lines_end}
@@ -18,22 +18,22 @@ use Rattle.ax_lines.specs.Holding.{Took}
 use Rattle.ax_lines.proofs.FrontLines.{SoFar, ended, line_more, nothing_so_far, reading_told, stops_told}
 
 -- these octets may come after those that were taken: any, unless the source had ended
-abbrev pub MayCome : Option Ended → List ℕ → Type 0
+abbrev pub MayCome : Option EndedLines → List ℕ → Type 0
 MayCome None after = Unit {0}
 MayCome (Some e) after = after ≡ []
 
 -- the octets that were taken, with any that may come after them, begin with lines whose results were written, whether the source
 -- tells them or not
-pub record TakenSoFar {F : Type 0} (c : LineCommand F) (line_limit limit : ℕ) (i : SourceChange) (held : List ℕ) (ended : Option Ended) (o : SinkChange) (given number count : ℕ) : Type 0 where
+pub record TakenSoFar {F : Type 0} (c : LineCommand F) (line_limit limit : ℕ) (i : SourceChange) (held : List ℕ) (ended : Option EndedLines) (o : SinkChange) (given number count : ℕ) : Type 0 where
   pub octets : List ℕ
   pub took : Took i octets
   pub so_far : (after : List ℕ) → MayCome ended after → SoFar c line_limit limit (octets ++ after) (ahead held (Some after)) ended o given number count
 
-may_none : (e : Option Ended) (after : List ℕ) → after ≡ [] → MayCome e after
+may_none : (e : Option EndedLines) (after : List ℕ) → after ≡ [] → MayCome e after
 may_none None after none = tt
 may_none (Some e) after none = none
 
-may_open : (e : Option Ended) (after : List ℕ) → e ≡ None → MayCome e after
+may_open : (e : Option EndedLines) (after : List ℕ) → e ≡ None → MayCome e after
 may_open e after opened = subst (λ x. MayCome x after) (sym opened) tt
 
 -- none was taken
@@ -41,7 +41,7 @@ pub took_nothing : (left : Option (List ℕ)) (taken faults : ℕ) → Took (rec
 took_nothing None taken faults = record { gives = refl; number = omega arith }
 took_nothing (Some rest) taken faults = record { gives = refl; number = omega arith }
 
-pub nothing_taken : {F : Type 0} (c : LineCommand F) (line_limit limit : ℕ) (left : Option (List ℕ)) (taken faults : ℕ) (held : List ℕ) (ended : Option Ended) (o : SinkChange) (given : ℕ) → held ≡ [] → given ≡ 0 → Gains o []
+pub nothing_taken : {F : Type 0} (c : LineCommand F) (line_limit limit : ℕ) (left : Option (List ℕ)) (taken faults : ℕ) (held : List ℕ) (ended : Option EndedLines) (o : SinkChange) (given : ℕ) → held ≡ [] → given ≡ 0 → Gains o []
     → TakenSoFar c line_limit limit (record { left = left; left' = left; taken = taken; taken' = taken; faults = faults; faults' = faults }) held ended o given 0 0
 nothing_taken c line_limit limit left taken faults held ended o given none z out = record {
   octets = [];
@@ -76,15 +76,15 @@ end_alone line_limit limit given held j e le f =
 stop_alone : (line_limit limit given : ℕ) (held : List ℕ) (j : SourceChange) (f : StopsInLine line_limit limit given held j) → StopsInLine line_limit limit given held (alone j f.taken [])
 stop_alone line_limit limit given held j f = record { taken = f.taken; took = took_alone j f.taken [] f.took; plain = f.plain; short = f.short; within = f.within }
 
-line_shown : (line_limit limit given : ℕ) (octets one held' after : List ℕ) (left : Option (List ℕ)) (ended' : Option Ended) → MayCome ended' after → ShowsLine line_limit limit given octets left one held' ended' → ShowsLine line_limit limit given octets (Some after) one held' ended'
+line_shown : (line_limit limit given : ℕ) (octets one held' after : List ℕ) (left : Option (List ℕ)) (ended' : Option EndedLines) → MayCome ended' after → ShowsLine line_limit limit given octets left one held' ended' → ShowsLine line_limit limit given octets (Some after) one held' ended'
 line_shown line_limit limit given octets one held' after left ended' may (inl h) = inl h
 line_shown line_limit limit given octets one held' after left ended' may (inr (h, at_end, is)) = inr (h, subst (λ x. MayCome x after) is may, is)
 
-any_line : (line_limit limit given : ℕ) (octets one held' : List ℕ) (left : Option (List ℕ)) (ended' : Option Ended) → ShowsLine line_limit limit given octets left one held' ended' → Shows line_limit limit given octets left (line one held')
+any_line : (line_limit limit given : ℕ) (octets one held' : List ℕ) (left : Option (List ℕ)) (ended' : Option EndedLines) → ShowsLine line_limit limit given octets left one held' ended' → Shows line_limit limit given octets left (line one held')
 any_line line_limit limit given octets one held' left ended' (inl h) = inl h.0
 any_line line_limit limit given octets one held' left ended' (inr (h, at_end, is)) = inr (h, at_end)
 
-line_alone : (line_limit limit given : ℕ) (held : List ℕ) (j : SourceChange) (given' : ℕ) (held' : List ℕ) (ended' : Option Ended) (one after : List ℕ) → given ≤ limit → MayCome ended' after → (g : GivesLine line_limit limit given held j given' held' ended' one)
+line_alone : (line_limit limit given : ℕ) (held : List ℕ) (j : SourceChange) (given' : ℕ) (held' : List ℕ) (ended' : Option EndedLines) (one after : List ℕ) → given ≤ limit → MayCome ended' after → (g : GivesLine line_limit limit given held j given' held' ended' one)
     → GivesLine line_limit limit given held (alone j g.taken after) given' held' ended' one
 line_alone line_limit limit given held j given' held' ended' one after le may g =
     let shows : ShowsLine line_limit limit given (held ++ g.taken) (Some after) one held' ended' = line_shown line_limit limit given (held ++ g.taken) one held' after j.left' ended' may g.shows in
@@ -149,7 +149,7 @@ module _ {F : Type 0} (c : LineCommand F) (line_limit limit : ℕ) (i : SourceCh
         (reading_told c line_limit limit (s.octets ++ (f.taken ++ [])) o reader number count line_limit_is limit_is (alone j f.taken []) (s.so_far (f.taken ++ []) (may_open reader.ended (f.taken ++ []) opened)) opened
         (stop_alone reader.line_limit reader.limit reader.given reader.buffered j f))
 
-    module _ (given' : ℕ) (held' : List ℕ) (ended' : Option Ended) (one : List ℕ) (g : GivesLine reader.line_limit reader.limit reader.given reader.buffered j given' held' ended' one) (k : SinkChange) (writes : k.held ≡ o.held') where
+    module _ (given' : ℕ) (held' : List ℕ) (ended' : Option EndedLines) (one : List ℕ) (g : GivesLine reader.line_limit reader.limit reader.given reader.buffered j given' held' ended' one) (k : SinkChange) (writes : k.held ≡ o.held') where
       -- the run ends at the line
       pub stopped_over : (e : LinesEnd F) → EndsAt c number one k e → RunsOverTaken c line_limit limit onward (both o k) e
       stopped_over e h = over g.taken (both o k) e g.took

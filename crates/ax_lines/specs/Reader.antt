@@ -6,8 +6,8 @@ use Rattle.ax_lines.specs.Holding.{Took}
 use Rattle.ax_lines.specs.Lined.{LinedEnd, all_lines, input_too_long, line_too_long, IsFedLine, IsLastLine, PassesLimit, PassesLine, NextLine, line, end, IsJustNextLine}
 use Rattle.ax_lines.specs.declared.line_error.LineError.{LineError}
 use Rattle.ax_lines.specs.declared.line_error.LineError.TheVariants.{InputTooLong, LineTooLong, ReadFault}
-use Rattle.ax_lines.specs.declared.reader.Ended.{Ended}
-use Rattle.ax_lines.specs.declared.reader.Ended.TheVariants.{EndOfInput, Refused}
+use Rattle.ax_lines.specs.declared.reader.EndedLines.{EndedLines}
+use Rattle.ax_lines.specs.declared.reader.EndedLines.TheVariants.{EndOfInput, Refused}
 use Rattle.ax_endpoints.specs.Changes.{SourceChange}
 use Rattle.ax_endpoints.specs.Told.{with_front, IsAtEnd}
 
@@ -18,7 +18,7 @@ pub record ReaderState : Type 0 where
   pub limit : ℕ
   pub given : ℕ
   pub buffered : List ℕ
-  pub ended : Option Ended
+  pub ended : Option EndedLines
 
 abbrev pub IsOpen : ReaderState → Type 0
 IsOpen reader = reader.ended ≡ None
@@ -68,18 +68,18 @@ line_read (Ok None) = Ok None
 line_read (Err e) = Err e
 
 -- what the reader answers from now on, after another answer than a line
-abbrev pub ended_by : {A : Type 0} → Result (Option A) LineError → Option Ended
+abbrev pub ended_by : {A : Type 0} → Result (Option A) LineError → Option EndedLines
 ended_by (Ok (Some octets)) = None
 ended_by (Ok None) = Some EndOfInput
 ended_by (Err e) = Some (Refused e)
 
 -- and after a line, of which the octets of the buffer end at `stop` and those after it and its line feed begin at `next`: the
 -- last one has no line feed, and None comes after it
-abbrev pub ended_if : Bool → Option Ended
+abbrev pub ended_if : Bool → Option EndedLines
 ended_if true = Some EndOfInput
 ended_if false = None
 
-abbrev pub ended_after : ℕ → ℕ → Option Ended
+abbrev pub ended_after : ℕ → ℕ → Option EndedLines
 ended_after stop next = ended_if (next == stop)
 
 -- ---- what octets show that are known so far
@@ -92,7 +92,7 @@ Shows line_limit limit given octets left (end input_too_long) = PassesLimit line
 Shows line_limit limit given octets left (end line_too_long) = PassesLine line_limit limit given octets
 
 -- a line and its line feed, after which the reader goes on; or the last one, with which the source has ended, and the reader
-abbrev pub ShowsLine : ℕ → ℕ → ℕ → List ℕ → Option (List ℕ) → List ℕ → List ℕ → Option Ended → Type 0
+abbrev pub ShowsLine : ℕ → ℕ → ℕ → List ℕ → Option (List ℕ) → List ℕ → List ℕ → Option EndedLines → Type 0
 ShowsLine line_limit limit given octets left one after ended =
     (IsFedLine line_limit limit given octets one after × (ended ≡ None)) ⊎ (IsLastLine line_limit limit given octets one after × IsAtEnd left × (ended ≡ Some EndOfInput))
 
@@ -113,7 +113,7 @@ pub record IsToldLine (line_limit limit given : ℕ) (before : List ℕ) (follow
   pub just : IsJustNextLine line_limit limit given before (line octets after)
 
 -- a line is given: the octets buffered and those taken begin with it, and the reader holds what is after it and its line feed
-pub record GivesLine (line_limit limit given : ℕ) (buffered : List ℕ) (i : SourceChange) (given' : ℕ) (buffered' : List ℕ) (ended' : Option Ended) (octets : List ℕ) : Type 0 where
+pub record GivesLine (line_limit limit given : ℕ) (buffered : List ℕ) (i : SourceChange) (given' : ℕ) (buffered' : List ℕ) (ended' : Option EndedLines) (octets : List ℕ) : Type 0 where
   pub taken : List ℕ
   pub took : Took i taken
   pub room : length (buffered ++ taken) ≤ line_limit + read_ahead

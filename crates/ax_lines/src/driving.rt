@@ -6,7 +6,7 @@ ghost use Rattle.ax_lines.specs.Standing.{StandsWhereRefused};
 ghost use Rattle.ax_endpoints.specs.Changes.{source_change, sink_change};
 
 use crate::doing::do_line;
-use crate::end::{LinesEnd, reader_end};
+use crate::end::{LinesEnd, line_reader_end};
 use crate::reader::LineReader;
 use crate::work::LineWork;
 use ax_endpoints::{Sink, Source};
@@ -38,7 +38,7 @@ pub fn drive_lines<W: LineWork, S: Source, K: Sink>(
                 Err(end) => return end,
             },
             Ok(None) => return LinesEnd::Done { results },
-            Err(error) => return reader_end(error, lines),
+            Err(error) => return line_reader_end(error, lines),
         }
     }
 }

@@ -24,7 +24,7 @@ pub enum LinesEnd<F> {
 }
 
 /// The end for a refusal of the reader, after this many lines.
-pub fn reader_end<F>(error: LineError, lines: u64) -> LinesEnd<F>
+pub fn line_reader_end<F>(error: LineError, lines: u64) -> LinesEnd<F>
     ensures { result ≡ error_end lines error }
 {
     match error {

@@ -10,7 +10,7 @@ use std::marker::Model;
 
 /// How a reader has ended, which it answers from then on.
 #[derive(Clone, Copy)]
-pub enum Ended {
+pub enum EndedLines {
     EndOfInput,
     Refused(LineError),
 }
@@ -24,7 +24,7 @@ pub struct LineReader {
     line_limit: u32,
     limit: u64,
     given: u64,
-    ended: Option<Ended>,
+    ended: Option<EndedLines>,
 }
 
 impl Model for LineReader {
@@ -74,11 +74,11 @@ impl LineReader {
     }
 
     /// How the reader has ended once it has given the line: a line without its line feed is the last one.
-    fn ended_after(line: BufferedLine) -> Option<Ended>
+    fn ended_after(line: BufferedLine) -> Option<EndedLines>
         ensures { result ≡ ended_after line.stop line.next }
     {
         if line.next == line.stop {
-            Some(Ended::EndOfInput)
+            Some(EndedLines::EndOfInput)
         } else {
             None
         }
@@ -110,8 +110,8 @@ impl LineReader {
         ensures quiet { UnlessReadFault result (S.faults source.new ≡ S.faults source.old) }
     {
         match self.ended {
-            Some(Ended::EndOfInput) => return Ok(None),
-            Some(Ended::Refused(error)) => return Err(error),
+            Some(EndedLines::EndOfInput) => return Ok(None),
+            Some(EndedLines::Refused(error)) => return Err(error),
             None => {}
         }
         match next_line(
@@ -131,11 +131,11 @@ impl LineReader {
                 Ok(Some(&self.buffer[line.start..line.stop]))
             }
             Ok(None) => {
-                self.ended = Some(Ended::EndOfInput);
+                self.ended = Some(EndedLines::EndOfInput);
                 Ok(None)
             }
             Err(error) => {
-                self.ended = Some(Ended::Refused(error));
+                self.ended = Some(EndedLines::Refused(error));
                 Err(error)
             }
         }

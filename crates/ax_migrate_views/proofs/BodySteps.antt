@@ -33,10 +33,10 @@ use Rattle.ax_codec.specs.Bare.{bare_kind}
 use Rattle.ax_codec.specs.Standing.{StandsFor}
 use Rattle.ax_codec.specs.Table.{record_kind_at}
 use Rattle.ax_codec.specs.declared.codec.Codec.{Codec}
-use Rattle.ax_view.proofs.BodySteps.{fails_of, one_more, record_value, some_records, record_forwards}
-use Rattle.ax_view.specs.Placing.{entries_there}
-use Rattle.ax_view.specs.Values.{value_read, entries_in}
-use Rattle.ax_view.specs.Views.{FailsThere, SpellsSome}
+use Rattle.ax_walk.proofs.BodySteps.{fails_of, one_more, record_value, some_records, record_forwards}
+use Rattle.ax_walk.specs.Placing.{entries_there}
+use Rattle.ax_walk.specs.Values.{value_read, entries_in}
+use Rattle.ax_walk.specs.Views.{FailsThere, SpellsSome}
 
 -- the records in front are laid, but for the octets from `from` on, which are those of records that stay as they are
 pub record RecordsMoved (spec : SpecTree) (moves : List Move) (lost : List RelationPath) (block : ℕ) (body : List ℕ) (from here end number told : ℕ) (old now before lines : List ℕ) : Type 0 where

@@ -25,7 +25,7 @@ use Rattle.ax_format.specs.Specification.{SpecTree}
 use Rattle.ax_format.specs.Split.{fit_after, fit_count, fits_within, records_length}
 use Rattle.ax_format.specs.Tree.{EntriesTree}
 use Rattle.ax_codec.specs.declared.codec.Codec.{Codec}
-use Rattle.ax_view.specs.Views.{IsRecordOf}
+use Rattle.ax_walk.specs.Views.{IsRecordOf}
 
 -- ---- each of some records
 

@@ -43,15 +43,15 @@ use Rattle.ax_codec.specs.Meaning.{linked_slots, meanings}
 use Rattle.ax_codec.specs.Table.{kind_at, record_kind_at}
 use Rattle.ax_codec.specs.declared.codec.Codec.{Codec}
 use Rattle.ax_codec.specs.declared.node.Node.{Node}
-use Rattle.ax_view.proofs.EarlyItems.{not_read}
-use Rattle.ax_view.proofs.ItemSteps.{is_marked}
-use Rattle.ax_view.proofs.Spelled.{value_spelled}
-use Rattle.ax_view.specs.Noted.{IsLeastRecord}
-use Rattle.ax_view.specs.Placing.{entries_there}
-use Rattle.ax_view.specs.RecordsAt.{IsRecordAt}
-use Rattle.ax_view.specs.Shown.{item_kind, item_value}
-use Rattle.ax_view.specs.Values.{IsRecord, entries_found, entries_in, value_in, value_read}
-use Rattle.ax_view.specs.declared.record.RecordView.{RecordView}
+use Rattle.ax_walk.proofs.EarlyItems.{not_read}
+use Rattle.ax_walk.proofs.ItemSteps.{is_marked}
+use Rattle.ax_walk.proofs.Spelled.{value_spelled}
+use Rattle.ax_walk.specs.Noted.{IsLeastRecord}
+use Rattle.ax_walk.specs.Placing.{entries_there}
+use Rattle.ax_walk.specs.RecordsAt.{IsRecordAt}
+use Rattle.ax_walk.specs.Shown.{item_kind, item_value}
+use Rattle.ax_walk.specs.Values.{IsRecord, entries_found, entries_in, value_in, value_read}
+use Rattle.ax_walk.specs.declared.record.RecordView.{RecordView}
 
 -- ---- the kind of a slot
 

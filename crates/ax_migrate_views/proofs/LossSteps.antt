@@ -24,12 +24,12 @@ use Rattle.ax_codec.specs.declared.codec.Codec.{Codec}
 use Rattle.ax_codec.specs.Meaning.{meanings, linked_slots}
 use Rattle.ax_codec.specs.Table.{record_kind_at}
 use Rattle.ax_codec.specs.declared.node.Node.{Node}
-use Rattle.ax_view.proofs.ItemSteps.{is_marked}
-use Rattle.ax_view.proofs.Spelled.{value_spelled}
-use Rattle.ax_view.specs.Left.{records_left}
-use Rattle.ax_view.specs.Pieces.{pieces, first_size, ArePieces}
-use Rattle.ax_view.specs.Values.{IsOne, value_in, entries_in}
-use Rattle.ax_view.specs.declared.records.Records.{Records}
+use Rattle.ax_walk.proofs.ItemSteps.{is_marked}
+use Rattle.ax_walk.proofs.Spelled.{value_spelled}
+use Rattle.ax_walk.specs.Left.{records_left}
+use Rattle.ax_walk.specs.Pieces.{pieces, first_size, ArePieces}
+use Rattle.ax_walk.specs.Values.{IsOne, value_in, entries_in}
+use Rattle.ax_walk.specs.declared.records.Records.{Records}
 
 -- ---- a text that is written piece by piece
 

@@ -11,7 +11,7 @@ use Rattle.ax_format.specs.Bodies.{RecordsSpell}
 use Rattle.ax_format.specs.Specification.{SpecTree}
 use Rattle.ax_format.specs.Tree.{EntriesTree}
 use Rattle.ax_codec.specs.declared.codec.Codec.{Codec}
-use Rattle.ax_view.specs.Views.{IsRecordOf}
+use Rattle.ax_walk.specs.Views.{IsRecordOf}
 
 -- ---- fronts of both lists
 

@@ -32,7 +32,7 @@ use Rattle.ax_blocks.specs.Commands.{gives}
 use Rattle.ax_blocks.specs.BlockTaking.{Takes, GivesFor, WritesOctets}
 use Rattle.ax_blocks.specs.declared.work.WorkStop.{WorkStop}
 use Rattle.ax_blocks.specs.declared.work.WorkStop.TheVariants.{Fault, TooLong, ReportFault}
-use Rattle.ax_view.specs.Views.{SpellsSome, FailsThere}
+use Rattle.ax_walk.specs.Views.{SpellsSome, FailsThere}
 
 -- ---- the category
 

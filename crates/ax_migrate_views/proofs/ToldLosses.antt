@@ -29,8 +29,8 @@ use Rattle.ax_codec.proofs.BareKinds.{bare_read, stands_record}
 use Rattle.ax_codec.specs.Standing.{StandsFor}
 use Rattle.ax_codec.specs.Table.{record_kind_at}
 use Rattle.ax_codec.specs.declared.codec.Codec.{Codec}
-use Rattle.ax_view.specs.Values.{value_in, value_read, entries_in}
-use Rattle.ax_view.specs.Views.{IsRecordOf, SpellEach}
+use Rattle.ax_walk.specs.Values.{value_in, value_read, entries_in}
+use Rattle.ax_walk.specs.Views.{IsRecordOf, SpellEach}
 
 -- what octets that spell a record show is that record
 shown_is : (codec : Codec) (spec : SpecTree) (entries : EntriesTree) (s : Codec × List ℕ) → StandsFor codec spec → IsRecordOf codec spec entries s → shown_entries s ≡ entries

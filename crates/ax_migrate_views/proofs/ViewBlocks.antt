@@ -16,11 +16,11 @@ use Rattle.ax_format.specs.declared.fault.BodyFault.{BodyFault}
 use Rattle.ax_codec.specs.Standing.{StandsFor}
 use Rattle.ax_codec.specs.Table.{record_kind_at}
 use Rattle.ax_codec.specs.declared.codec.Codec.{Codec}
-use Rattle.ax_view.proofs.BodySteps.{some_records}
-use Rattle.ax_view.proofs.Spelled.{record_spelled}
-use Rattle.ax_view.specs.Pieces.{ArePieces, first_size}
-use Rattle.ax_view.specs.Values.{entries_in, value_in}
-use Rattle.ax_view.specs.Views.{FailsThere}
+use Rattle.ax_walk.proofs.BodySteps.{some_records}
+use Rattle.ax_walk.proofs.Spelled.{record_spelled}
+use Rattle.ax_walk.specs.Pieces.{ArePieces, first_size}
+use Rattle.ax_walk.specs.Values.{entries_in, value_in}
+use Rattle.ax_walk.specs.Views.{FailsThere}
 
 -- ---- the body of a view spells records
 

@@ -21,8 +21,8 @@ use Rattle.ax_format.specs.Split.{fit_count, records_length}
 use Rattle.ax_format.specs.Tree.{EntriesTree}
 use Rattle.ax_codec.specs.Table.{record_kind_at}
 use Rattle.ax_codec.specs.declared.codec.Codec.{Codec}
-use Rattle.ax_view.specs.Pieces.{ArePieces}
-use Rattle.ax_view.specs.Views.{IsRecordOf, SpellEach}
+use Rattle.ax_walk.specs.Pieces.{ArePieces}
+use Rattle.ax_walk.specs.Views.{IsRecordOf, SpellEach}
 
 range_made : (m : Migrator) (from count : ℕ) (records : List EntriesTree) → made_of m (take count (drop from records)) ≡ made_range m from count records
 range_made m from count records =

@@ -22,17 +22,17 @@ use Rattle.ax_endpoints.specs.Changes.{Wrote}
 use Rattle.ax_format.specs.Bodies.{SpellsBody}
 use Rattle.ax_format.specs.Specification.{SpecTree}
 use Rattle.ax_format.specs.Tree.{ValueTree, EntriesTree}
-use Rattle.ax_view.specs.Views.{IsRecordOf, SpellEach}
+use Rattle.ax_walk.specs.Views.{IsRecordOf, SpellEach}
 use Rattle.ax_relation.specs.declared.relation.RelationPath.{RelationPath}
 use Rattle.ax_format.specs.declared.fault.BodyFault.{BodyFault}
 use Rattle.ax_fspec.specs.Reading.{FailsAt, kind_read}
 use Rattle.ax_codec.specs.Table.{record_kind_at}
 use Rattle.ax_codec.specs.declared.codec.Codec.{Codec}
 use Rattle.ax_codec.specs.declared.node.Node.{Node}
-use Rattle.ax_view.specs.Left.{records_left}
-use Rattle.ax_view.specs.Placing.{entries_there}
-use Rattle.ax_view.specs.Values.{IsAll, IsOne, value_in, entries_in}
-use Rattle.ax_view.specs.declared.records.Records.{Records}
+use Rattle.ax_walk.specs.Left.{records_left}
+use Rattle.ax_walk.specs.Placing.{entries_there}
+use Rattle.ax_walk.specs.Values.{IsAll, IsOne, value_in, entries_in}
+use Rattle.ax_walk.specs.declared.records.Records.{Records}
 
 -- ---- keys
 

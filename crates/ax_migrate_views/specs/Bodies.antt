@@ -16,8 +16,8 @@ use Rattle.ax_format.specs.Tree.{marked, EntriesTree}
 use Rattle.ax_codec.specs.Bare.{bare_kind}
 use Rattle.ax_codec.specs.Standing.{StandsFor}
 use Rattle.ax_codec.specs.declared.codec.Codec.{Codec}
-use Rattle.ax_view.specs.Placing.{PlacesKind}
-use Rattle.ax_view.specs.declared.places.Places.{Places}
+use Rattle.ax_walk.specs.Placing.{PlacesKind}
+use Rattle.ax_walk.specs.declared.places.Places.{Places}
 
 -- the records of the old edition, one after the other
 abbrev pub body_by : MovesTree → SpecTree → List EntriesTree → List ℕ

@@ -21,12 +21,12 @@ use Rattle.ax_codec.specs.Table.{record_kind_at}
 use Rattle.ax_codec.specs.declared.codec.Codec.{Codec}
 use Rattle.ax_codec.specs.declared.node.Node.{Node}
 use Rattle.ax_codec.specs.declared.node.Node.TheVariants as Of
-use Rattle.ax_view.specs.Noted.{canon_in}
-use Rattle.ax_view.specs.Placing.{IsMarkedItem}
-use Rattle.ax_view.specs.RecordsAt.{IsRecordAt}
-use Rattle.ax_view.specs.Shown.{IsOfSlot, item_value}
-use Rattle.ax_view.specs.Values.{IsOne, value_in}
-use Rattle.ax_view.specs.declared.item.ItemView.{ItemView}
+use Rattle.ax_walk.specs.Noted.{canon_in}
+use Rattle.ax_walk.specs.Placing.{IsMarkedItem}
+use Rattle.ax_walk.specs.RecordsAt.{IsRecordAt}
+use Rattle.ax_walk.specs.Shown.{IsOfSlot, item_value}
+use Rattle.ax_walk.specs.Values.{IsOne, value_in}
+use Rattle.ax_walk.specs.declared.item.ItemView.{ItemView}
 
 -- ---- keys
 

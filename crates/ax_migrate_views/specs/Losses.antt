@@ -17,9 +17,9 @@ use Rattle.ax_endpoints.specs.Changes.{SinkChange, Wrote}
 use Rattle.ax_endpoints.specs.declared.sinks.SinkFailed.{SinkFailed}
 use Rattle.ax_codec.specs.Table.{record_kind_at}
 use Rattle.ax_codec.specs.declared.codec.Codec.{Codec}
-use Rattle.ax_view.specs.Left.{records_left}
-use Rattle.ax_view.specs.Shown.{record_entries}
-use Rattle.ax_view.specs.Values.{value_in, entries_in}
+use Rattle.ax_walk.specs.Left.{records_left}
+use Rattle.ax_walk.specs.Shown.{record_entries}
+use Rattle.ax_walk.specs.Values.{value_in, entries_in}
 
 -- the entries of a record that a view shows
 abbrev pub shown_entries : Codec × List ℕ → EntriesTree

@@ -15,7 +15,7 @@ use Rattle.ax_format.specs.Sizes.{longest_block, longest_body}
 use Rattle.ax_format.specs.Split.{fit_count, records_length}
 use Rattle.ax_format.specs.Tree.{EntriesTree}
 use Rattle.ax_codec.specs.declared.codec.Codec.{Codec}
-use Rattle.ax_view.specs.Views.{IsRecordOf}
+use Rattle.ax_walk.specs.Views.{IsRecordOf}
 
 -- the migrated records
 abbrev pub made_of : Migrator → List EntriesTree → List EntriesTree

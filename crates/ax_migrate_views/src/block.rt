@@ -8,7 +8,7 @@ ghost use Rattle.ax_format.specs.Sizes.{longest_body};
 ghost use Rattle.ax_endpoints.specs.Changes.{sink_change};
 ghost use Rattle.ax_blocks.specs.BlockTaking.{Takes};
 ghost use Rattle.ax_blocks.specs.declared.work.WorkStop.TheVariants.{OutOfMemory};
-ghost use Rattle.ax_view.specs.Views.{SpellsSome};
+ghost use Rattle.ax_walk.specs.Views.{SpellsSome};
 
 use crate::migrator::Migrator;
 use crate::pieces::{KnownRange, first_too_long, write_blocks};
@@ -16,7 +16,7 @@ use crate::ranges::Fit;
 use ax_blocks::{WorkStop, write_piece};
 use ax_endpoints::{Sink, SinkFailed, write_text};
 use ax_format::RawBlock;
-use ax_view::scan;
+use ax_walk::scan;
 
 /// The most octets of a data block, and of lines that are kept.
 const LONGEST: u32 = 65_535;

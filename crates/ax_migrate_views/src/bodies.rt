@@ -12,15 +12,15 @@ ghost use Rattle.ax_moves.specs.Octets.{canon_by};
 ghost use Rattle.ax_format.specs.Sizes.{longest_body};
 ghost use Rattle.ax_format.specs.Tree.{marked};
 ghost use Rattle.ax_codec.specs.Table.{record_kind_at};
-ghost use Rattle.ax_view.specs.Placing.{entries_there};
-ghost use Rattle.ax_view.specs.Views.{FailsThere, SpellsSome};
+ghost use Rattle.ax_walk.specs.Placing.{entries_there};
+ghost use Rattle.ax_walk.specs.Views.{FailsThere, SpellsSome};
 
 use crate::kept::{KeptSlots, kept_end};
 use ax_codec::Codec;
 use ax_format::BodyFault;
 use ax_moves::{LostKey, SlotMoves, lay_moved, lay_run, tell_record};
 use ax_relation::Moves;
-use ax_view::{Notes, PlacedSlots, Places, place_record};
+use ax_walk::{Notes, PlacedSlots, Places, place_record};
 
 /// Lays the record at octet `here` of a body as it moves, and answers how many octets were laid.
 fn lay_record(

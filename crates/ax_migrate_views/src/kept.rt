@@ -6,14 +6,14 @@ ghost use Rattle.ax_format.specs.Sizes.{longest_body};
 ghost use Rattle.ax_rows.specs.Rows.{AreRows};
 ghost use Rattle.ax_codec.specs.Octets.{octets_of};
 ghost use Rattle.ax_codec.specs.Table.{IsTable, SlotLinksWithin};
-ghost use Rattle.ax_view.specs.InPlace.{EndsField};
+ghost use Rattle.ax_walk.specs.InPlace.{EndsField};
 
 use ax_codec::{Codec, Node};
 use ax_fspec::{Presence, read_presence};
 use ax_moves::{LostKey, SLOTS, are_ordered, keeps, own_move};
 use ax_relation::{Move, Moves};
 use ax_rows::Rows;
-use ax_view::{Notes, marked_item, record_by_rows};
+use ax_walk::{Notes, marked_item, record_by_rows};
 use std::alloc::{AllocError, Global};
 
 /// By what records are known to stay as they are.

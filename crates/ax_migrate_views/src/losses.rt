@@ -1,10 +1,10 @@
 //! What the records of a view lose, one loss after the other.
 ghost use Rattle.std.specs.Prelude.{◌+◌, ◌≤◌, length};
 ghost use Rattle.ax_format.specs.Sizes.{longest_body};
-ghost use Rattle.ax_view.specs.Left.{records_left};
+ghost use Rattle.ax_walk.specs.Left.{records_left};
 
 use ax_relation::{RelationPath, RelationPaths};
-use ax_view::{RecordView, Records};
+use ax_walk::{RecordView, Records};
 
 /// What one record loses, an iterator, in the order of the keys of the old edition.
 #[derive(Drop)]

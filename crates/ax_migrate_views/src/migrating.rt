@@ -6,7 +6,7 @@ ghost use Rattle.ax_migrate_views.specs.Losses.{TellsLosses};
 ghost use Rattle.ax_format.specs.Plain.{spec_tree};
 ghost use Rattle.ax_format.specs.Sizes.{longest_body};
 ghost use Rattle.ax_codec.specs.Standing.{IsCompiled};
-ghost use Rattle.ax_view.specs.Views.{FailsThere, SpellsSome};
+ghost use Rattle.ax_walk.specs.Views.{FailsThere, SpellsSome};
 
 use crate::bodies::{Laid, lay_body};
 use crate::kept::kept_slots;

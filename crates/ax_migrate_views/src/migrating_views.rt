@@ -10,7 +10,7 @@ use crate::migrator::Migrator;
 use crate::writing::write_record;
 use ax_bits::Out;
 use ax_endpoints::{Sink, SinkFailed};
-use ax_view::BlockView;
+use ax_walk::BlockView;
 
 impl<'c> Migrator<'c> {
     /// Lays the canonical form of the migrated block of a view at the front of the output, and answers its octets; where they

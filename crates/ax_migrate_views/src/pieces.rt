@@ -7,7 +7,7 @@ ghost use Rattle.ax_endpoints.specs.Changes.{sink_change};
 use crate::migrator::Migrator;
 use crate::ranges::Fit;
 use ax_endpoints::{Sink, SinkFailed, write_text};
-use ax_view::BlockView;
+use ax_walk::BlockView;
 
 /// What is kept of a range of migrated records: as many as come into one block, from that of the number `from` on. With none it
 /// says nothing.

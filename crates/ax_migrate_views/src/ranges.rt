@@ -5,12 +5,12 @@ ghost use Rattle.ax_bits.specs.Out.{written, room};
 ghost use Rattle.ax_migrate_views.specs.Blocks.{LaysMigrated};
 ghost use Rattle.ax_migrate_views.specs.Ranges.{AppendsRange, AreRecordsOf, FitsFrom, FitsShown, HasRange, HasRecords, LaysRange, SpellsOld, SpellsRange, shown_octets};
 ghost use Rattle.ax_format.specs.Sizes.{longest_body};
-ghost use Rattle.ax_view.specs.Left.{records_left};
+ghost use Rattle.ax_walk.specs.Left.{records_left};
 
 use crate::migrator::Migrator;
 use ax_bits::Out;
 use ax_moves::LONGEST;
-use ax_view::{BlockView, Records};
+use ax_walk::{BlockView, Records};
 
 /// The octets of CAT and LEN.
 const HEAD: u32 = 3;

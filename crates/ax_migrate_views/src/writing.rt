@@ -6,14 +6,14 @@ ghost use Rattle.ax_moves.specs.Lost.{AreRuns, key_paths, losses_below};
 ghost use Rattle.ax_moves.specs.Wholes.{whole_entries};
 ghost use Rattle.ax_format.specs.Tree.{marked};
 ghost use Rattle.ax_endpoints.specs.Changes.{Wrote, sink_change};
-ghost use Rattle.ax_view.specs.Placing.{IsPlaced};
-ghost use Rattle.ax_view.specs.Shown.{record_entries};
+ghost use Rattle.ax_walk.specs.Placing.{IsPlaced};
+ghost use Rattle.ax_walk.specs.Shown.{record_entries};
 
 use ax_codec::Codec;
 use ax_endpoints::{Sink, SinkFailed, write_text};
 use ax_migration::{Loss, loss_line};
 use ax_moves::{LONGEST, LostKey, tell_keys};
-use ax_view::{Notes, PlacedSlots, Places, RecordView, place_record};
+use ax_walk::{Notes, PlacedSlots, Places, RecordView, place_record};
 
 /// Writes the lines of the keys that the record of that number loses: as one piece where they can be kept, and else those of
 /// one half of the keys after those of the other. At `SinkFailed` a prefix was added, and the report counted a fault.

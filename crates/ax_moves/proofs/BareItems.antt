@@ -27,13 +27,13 @@ use Rattle.ax_codec.specs.Meaning.{meanings, linked_slots}
 use Rattle.ax_codec.specs.Table.{record_kind_at}
 use Rattle.ax_codec.specs.declared.node.Node.{Node}
 use Rattle.ax_codec.specs.declared.node.Node.TheVariants as Of
-use Rattle.ax_view.proofs.EarlyItems.{not_read}
-use Rattle.ax_view.proofs.Found.{compound_one, entries_are}
-use Rattle.ax_view.proofs.ItemSteps.{is_marked}
-use Rattle.ax_view.proofs.NodeKinds.{compound_mask, is_compound}
-use Rattle.ax_view.specs.Shown.{item_value}
-use Rattle.ax_view.specs.Values.{entries_in, value_in}
-use Rattle.ax_view.specs.declared.item.ItemView.{ItemView}
+use Rattle.ax_walk.proofs.EarlyItems.{not_read}
+use Rattle.ax_walk.proofs.Found.{compound_one, entries_are}
+use Rattle.ax_walk.proofs.ItemSteps.{is_marked}
+use Rattle.ax_walk.proofs.NodeKinds.{compound_mask, is_compound}
+use Rattle.ax_walk.specs.Shown.{item_value}
+use Rattle.ax_walk.specs.Values.{entries_in, value_in}
+use Rattle.ax_walk.specs.declared.item.ItemView.{ItemView}
 
 -- ---- slots that aren't marked have no entry
 

@@ -18,12 +18,12 @@ use Rattle.ax_codec.specs.Table.{record_kind_at}
 use Rattle.ax_codec.specs.declared.codec.Codec.{Codec}
 use Rattle.ax_codec.specs.declared.node.Node.{Node}
 use Rattle.ax_codec.specs.declared.node.Node.TheVariants as Of
-use Rattle.ax_view.proofs.ItemSteps.{is_marked}
-use Rattle.ax_view.proofs.NodeKinds.{is_compound}
-use Rattle.ax_view.specs.Placing.{entries_there}
-use Rattle.ax_view.specs.Shown.{item_kind, item_value}
-use Rattle.ax_view.specs.Values.{value_in, entries_in}
-use Rattle.ax_view.specs.declared.item.ItemView.{ItemView}
+use Rattle.ax_walk.proofs.ItemSteps.{is_marked}
+use Rattle.ax_walk.proofs.NodeKinds.{is_compound}
+use Rattle.ax_walk.specs.Placing.{entries_there}
+use Rattle.ax_walk.specs.Shown.{item_kind, item_value}
+use Rattle.ax_walk.specs.Values.{value_in, entries_in}
+use Rattle.ax_walk.specs.declared.item.ItemView.{ItemView}
 
 -- ---- marks
 

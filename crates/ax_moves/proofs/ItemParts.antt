@@ -25,15 +25,15 @@ use Rattle.ax_relation.specs.Moves.{MovesTree}
 use Rattle.ax_codec.specs.Meaning.{linked_part, linked_parts, meanings}
 use Rattle.ax_codec.specs.declared.node.Node.{Node}
 use Rattle.ax_codec.specs.declared.node.Node.TheVariants as Of
-use Rattle.ax_view.proofs.ItemPieces.{extended_bounds, extended_one}
-use Rattle.ax_view.proofs.ItemSteps.{le_or_less}
-use Rattle.ax_view.proofs.NodeKinds.{is_extended}
-use Rattle.ax_view.proofs.PartSteps.{is_parts}
-use Rattle.ax_view.proofs.Spelled.{leaf_canonical, value_spelled}
-use Rattle.ax_view.specs.Shown.{ArePartsOf, IsParts, PartsAre, item_kind, item_value}
-use Rattle.ax_view.specs.Spots.{lists_in}
-use Rattle.ax_view.specs.Values.{IsItemOf, ItemInBounds, value_in, value_read}
-use Rattle.ax_view.specs.declared.item.ItemView.{ItemView}
+use Rattle.ax_walk.proofs.ItemPieces.{extended_bounds, extended_one}
+use Rattle.ax_walk.proofs.ItemSteps.{le_or_less}
+use Rattle.ax_walk.proofs.NodeKinds.{is_extended}
+use Rattle.ax_walk.proofs.PartSteps.{is_parts}
+use Rattle.ax_walk.proofs.Spelled.{leaf_canonical, value_spelled}
+use Rattle.ax_walk.specs.Shown.{ArePartsOf, IsParts, PartsAre, item_kind, item_value}
+use Rattle.ax_walk.specs.Spots.{lists_in}
+use Rattle.ax_walk.specs.Values.{IsItemOf, ItemInBounds, value_in, value_read}
+use Rattle.ax_walk.specs.declared.item.ItemView.{ItemView}
 
 -- ---- an extended item
 

@@ -20,12 +20,12 @@ use Rattle.ax_codec.specs.Meaning.{Meaning, linked_part, linked_slot, linked_slo
 use Rattle.ax_codec.specs.Table.{IsTable, kind_at, record_kind_at}
 use Rattle.ax_codec.specs.declared.node.Node.{Node}
 use Rattle.ax_codec.specs.declared.node.Node.TheVariants as Of
-use Rattle.ax_view.proofs.ItemSteps.{is_marked}
-use Rattle.ax_view.proofs.NodeKinds.{is_element, is_group, no_part, is_extended, is_counted, is_by_fx, is_explicit, is_compound}
-use Rattle.ax_view.proofs.Spelled.{value_spelled}
-use Rattle.ax_view.specs.Shown.{item_kind, item_value}
-use Rattle.ax_view.specs.Values.{ItemInBounds, IsItemOf, IsOne, value_in, entries_in}
-use Rattle.ax_view.specs.declared.item.ItemView.{ItemView}
+use Rattle.ax_walk.proofs.ItemSteps.{is_marked}
+use Rattle.ax_walk.proofs.NodeKinds.{is_element, is_group, no_part, is_extended, is_counted, is_by_fx, is_explicit, is_compound}
+use Rattle.ax_walk.proofs.Spelled.{value_spelled}
+use Rattle.ax_walk.specs.Shown.{item_kind, item_value}
+use Rattle.ax_walk.specs.Values.{ItemInBounds, IsItemOf, IsOne, value_in, entries_in}
+use Rattle.ax_walk.specs.declared.item.ItemView.{ItemView}
 
 -- ---- leaves
 

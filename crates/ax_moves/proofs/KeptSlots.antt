@@ -16,9 +16,9 @@ use Rattle.ax_format.specs.At.{slot_value}
 use Rattle.ax_format.specs.Tree.{ValueTree, EntriesTree}
 use Rattle.ax_moves.specs.Wholes.{whole_entries, whole_slots}
 use Rattle.ax_codec.specs.declared.node.Node.{Node}
-use Rattle.ax_view.specs.Placing.{HoldsValue, window_octets, window_value}
-use Rattle.ax_view.specs.declared.places.PlacedSlots.{PlacedSlots}
-use Rattle.ax_view.specs.declared.places.Window.{Window}
+use Rattle.ax_walk.specs.Placing.{HoldsValue, window_octets, window_value}
+use Rattle.ax_walk.specs.declared.places.PlacedSlots.{PlacedSlots}
+use Rattle.ax_walk.specs.declared.places.Window.{Window}
 
 -- ---- which slots stay, one after the other
 

@@ -17,10 +17,10 @@ use Rattle.ax_format.specs.Canonical.{canon}
 use Rattle.ax_format.specs.InBounds.{InBounds}
 use Rattle.ax_format.specs.Presence.{none_marked, marks_after, marks_upto, least_presence}
 use Rattle.ax_format.specs.Tree.{KindTree}
-use Rattle.ax_view.proofs.Spelled.{value_spelled}
-use Rattle.ax_view.specs.Shown.{item_kind, item_value}
-use Rattle.ax_view.specs.Values.{IsOne, IsItemOf, ItemInBounds, value_in}
-use Rattle.ax_view.specs.declared.item.ItemView.{ItemView}
+use Rattle.ax_walk.proofs.Spelled.{value_spelled}
+use Rattle.ax_walk.specs.Shown.{item_kind, item_value}
+use Rattle.ax_walk.specs.Values.{IsOne, IsItemOf, ItemInBounds, value_in}
+use Rattle.ax_walk.specs.declared.item.ItemView.{ItemView}
 
 -- ---- whole octets
 

@@ -3,7 +3,7 @@ use Rattle.std.proofs.Common.{◌≡◌, ℕ, List, ◌∷◌, option_and_then, 
 use Rattle.ax_format.specs.At.{slot_value}
 use Rattle.ax_format.specs.Tree.{ValueTree, marked}
 use Rattle.ax_relation.specs.Standing.{value_below}
-use Rattle.ax_view.specs.Values.{entries_in}
+use Rattle.ax_walk.specs.Values.{entries_in}
 
 pub leads : (s : ℕ) (steps : List ℕ) (v : ValueTree) → value_below (s ∷ steps) v ≡ option_and_then (value_below steps) (slot_value s (entries_in v))
 leads s steps (marked es) = refl

@@ -10,12 +10,12 @@ use Rattle.ax_codec.specs.Table.{SlotLinksWithin, kind_at, record_kind_at}
 use Rattle.ax_codec.specs.declared.codec.Codec.{Codec}
 use Rattle.ax_codec.specs.declared.node.Node.{Node}
 use Rattle.ax_codec.specs.declared.node.Node.TheVariants as Of
-use Rattle.ax_view.specs.Placing.{ArePlaced, IsPlaced, PlacesKind, entries_there}
-use Rattle.ax_view.specs.Shown.{IsOfSlot}
-use Rattle.ax_view.specs.Values.{value_read, entries_in}
-use Rattle.ax_view.specs.declared.places.FoundItem.{FoundItem}
-use Rattle.ax_view.specs.declared.places.PlacedSlots.{PlacedSlots}
-use Rattle.ax_view.specs.declared.places.Places.{Places}
+use Rattle.ax_walk.specs.Placing.{ArePlaced, IsPlaced, PlacesKind, entries_there}
+use Rattle.ax_walk.specs.Shown.{IsOfSlot}
+use Rattle.ax_walk.specs.Values.{value_read, entries_in}
+use Rattle.ax_walk.specs.declared.places.FoundItem.{FoundItem}
+use Rattle.ax_walk.specs.declared.places.PlacedSlots.{PlacedSlots}
+use Rattle.ax_walk.specs.declared.places.Places.{Places}
 
 -- the kind of a slot that isn't spare is the one that its link leads to
 link_kind : (ms : List Meaning) (links : List ℕ) (i link : ℕ) → link ≡ get_or links i 0 → 0 < link → kind_after i (slots_of (map (linked_slot ms) links)) ≡ Some (kind_of (linked ms link))

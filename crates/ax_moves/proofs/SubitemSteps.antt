@@ -28,12 +28,12 @@ use Rattle.ax_codec.specs.Meaning.{linked_slots, meanings}
 use Rattle.ax_codec.specs.Table.{IsTable, SlotLinksWithin, kind_at, record_kind_at}
 use Rattle.ax_codec.specs.declared.node.Node.{Node}
 use Rattle.ax_codec.specs.declared.node.Node.TheVariants as Of
-use Rattle.ax_view.proofs.NodeKinds.{is_compound}
-use Rattle.ax_view.proofs.Spelled.{value_spelled}
-use Rattle.ax_view.specs.Placing.{HoldsValue, window_octets, window_value}
-use Rattle.ax_view.specs.Values.{IsOne, value_in}
-use Rattle.ax_view.specs.declared.places.PlacedSlots.{PlacedSlots}
-use Rattle.ax_view.specs.declared.places.Window.{Window}
+use Rattle.ax_walk.proofs.NodeKinds.{is_compound}
+use Rattle.ax_walk.proofs.Spelled.{value_spelled}
+use Rattle.ax_walk.specs.Placing.{HoldsValue, window_octets, window_value}
+use Rattle.ax_walk.specs.Values.{IsOne, value_in}
+use Rattle.ax_walk.specs.declared.places.PlacedSlots.{PlacedSlots}
+use Rattle.ax_walk.specs.declared.places.Window.{Window}
 
 -- ---- one slot
 

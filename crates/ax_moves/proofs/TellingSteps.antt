@@ -23,12 +23,12 @@ use Rattle.ax_fspec.specs.Reading.{kind_read}
 use Rattle.ax_codec.specs.declared.codec.Codec.{Codec}
 use Rattle.ax_codec.specs.declared.node.Node.{Node}
 use Rattle.ax_codec.specs.declared.node.Node.TheVariants as Of
-use Rattle.ax_view.proofs.ItemSteps.{is_marked, le_or_less}
-use Rattle.ax_view.proofs.NodeKinds.{is_compound}
-use Rattle.ax_view.specs.Placing.{entries_there}
-use Rattle.ax_view.specs.Shown.{item_value}
-use Rattle.ax_view.specs.declared.item.ItemView.{ItemView}
-use Rattle.ax_view.specs.Values.{entries_in, value_in}
+use Rattle.ax_walk.proofs.ItemSteps.{is_marked, le_or_less}
+use Rattle.ax_walk.proofs.NodeKinds.{is_compound}
+use Rattle.ax_walk.specs.Placing.{entries_there}
+use Rattle.ax_walk.specs.Shown.{item_value}
+use Rattle.ax_walk.specs.declared.item.ItemView.{ItemView}
+use Rattle.ax_walk.specs.Values.{entries_in, value_in}
 
 -- ---- some keys after the others
 

@@ -8,8 +8,8 @@ use Rattle.ax_format.specs.At.{slot_value}
 use Rattle.ax_format.specs.Tree.{marked, EntriesTree}
 use Rattle.ax_relation.specs.Moves.{MovesTree}
 use Rattle.ax_codec.specs.Table.{record_kind_at}
-use Rattle.ax_view.specs.Shown.{item_kind, item_value}
-use Rattle.ax_view.specs.declared.item.ItemView.{ItemView}
+use Rattle.ax_walk.specs.Shown.{item_kind, item_value}
+use Rattle.ax_walk.specs.declared.item.ItemView.{ItemView}
 
 -- the item is a compound, and has no other subitems than those of the slots in this set
 pub record HasOnly (item : ItemView) (marks : List ℕ) : Type 0 where

@@ -12,7 +12,7 @@ use Rattle.ax_format.specs.InBounds.{InBounds}
 use Rattle.ax_format.specs.Tree.{SlotsTree, ValueTree, EntriesTree}
 use Rattle.ax_codec.specs.Table.{kind_at, record_kind_at}
 use Rattle.ax_codec.specs.declared.node.Node.{Node}
-use Rattle.ax_view.specs.Values.{IsOne, value_in}
+use Rattle.ax_walk.specs.Values.{IsOne, value_in}
 
 -- ---- looking up
 

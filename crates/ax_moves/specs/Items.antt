@@ -2,8 +2,8 @@
 use Rattle.std.specs.Prelude.{ℕ, List}
 use Rattle.ax_moves.specs.Octets.{value_canon_by}
 use Rattle.ax_relation.specs.Moves.{MovesTree}
-use Rattle.ax_view.specs.Shown.{item_kind, item_value}
-use Rattle.ax_view.specs.declared.item.ItemView.{ItemView}
+use Rattle.ax_walk.specs.Shown.{item_kind, item_value}
+use Rattle.ax_walk.specs.declared.item.ItemView.{ItemView}
 
 -- of an extended item its first c parts
 abbrev pub item_canon_by : ℕ → MovesTree → ItemView → List ℕ

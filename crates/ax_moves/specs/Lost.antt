@@ -10,8 +10,8 @@ use Rattle.ax_moves.specs.declared.lost.LostKey.{LostKey}
 use Rattle.ax_moves.specs.declared.lost.Run.{Run}
 use Rattle.ax_format.specs.Placed.{has_part, has_part_where}
 use Rattle.ax_format.specs.Tree.{ValueTree}
-use Rattle.ax_view.specs.Shown.{item_value}
-use Rattle.ax_view.specs.declared.item.ItemView.{ItemView}
+use Rattle.ax_walk.specs.Shown.{item_value}
+use Rattle.ax_walk.specs.declared.item.ItemView.{ItemView}
 
 abbrev pub key_path : LostKey → RelationPath
 key_path k = k.path.now

@@ -16,8 +16,8 @@ use Rattle.ax_format.specs.Lengths.{kind_after}
 use Rattle.ax_format.specs.Tree.{KindTree, SlotsTree, marked, EntriesTree}
 use Rattle.ax_codec.specs.Table.{kind_at, record_kind_at}
 use Rattle.ax_codec.specs.declared.node.Node.{Node}
-use Rattle.ax_view.specs.Values.{IsOne, value_in}
-use Rattle.ax_view.specs.declared.places.PlacedSlots.{PlacedSlots}
+use Rattle.ax_walk.specs.Values.{IsOne, value_in}
+use Rattle.ax_walk.specs.declared.places.PlacedSlots.{PlacedSlots}
 
 -- ---- subitems
 

@@ -4,10 +4,10 @@ use Rattle.ax_format.specs.Lengths.{kind_after}
 use Rattle.ax_format.specs.Tree.{KindTree, compound, SlotsTree, no_slots, EntriesTree}
 use Rattle.ax_codec.specs.Table.{record_kind_at}
 use Rattle.ax_codec.specs.declared.codec.Codec.{Codec}
-use Rattle.ax_view.specs.Placing.{placed_entries}
-use Rattle.ax_view.specs.Shown.{item_kind}
-use Rattle.ax_view.specs.declared.item.ItemView.{ItemView}
-use Rattle.ax_view.specs.declared.places.PlacedSlots.{PlacedSlots}
+use Rattle.ax_walk.specs.Placing.{placed_entries}
+use Rattle.ax_walk.specs.Shown.{item_kind}
+use Rattle.ax_walk.specs.declared.item.ItemView.{ItemView}
+use Rattle.ax_walk.specs.declared.places.PlacedSlots.{PlacedSlots}
 
 abbrev pub slots_in : KindTree → SlotsTree
 slots_in (compound ss) = ss

@@ -4,7 +4,7 @@ ghost use Rattle.ax_moves.specs.Bare.{HasNoneOf, HasOnly, IsBare};
 
 use ax_codec::Node;
 use ax_fspec::{Presence, read_presence};
-use ax_view::ItemView;
+use ax_walk::ItemView;
 
 /// The slots of a compound's subitems, without a walk over these; None for another kind.
 #[inline]

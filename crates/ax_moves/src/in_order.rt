@@ -8,7 +8,7 @@ ghost use Rattle.ax_moves.specs.KnownMoves.{KnowsMoves};
 ghost use Rattle.ax_moves.specs.Laying.{Lays};
 ghost use Rattle.ax_moves.specs.Octets.{whole_canon_by};
 ghost use Rattle.ax_moves.specs.Wholes.{of_whole, whole_entries};
-ghost use Rattle.ax_view.specs.Placing.{IsPlaced};
+ghost use Rattle.ax_walk.specs.Placing.{IsPlaced};
 
 use crate::by_slot::SlotMoves;
 use crate::laying::{lay_field, lay_octets};
@@ -17,7 +17,7 @@ use crate::subitems::is_copied;
 use crate::values::{lay_entry, lay_whole};
 use ax_fspec::Presence;
 use ax_relation::{Move, Moves};
-use ax_view::PlacedSlots;
+use ax_walk::PlacedSlots;
 
 /// Adds the new slot of the entry of a slot, if it is there and moves.
 #[inline(always)]

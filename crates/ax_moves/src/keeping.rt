@@ -11,7 +11,7 @@ ghost use Rattle.ax_codec.specs.Table.{IsTable, SlotLinksWithin, kind_at};
 
 use ax_codec::Node;
 use ax_relation::{Move, Moves};
-use ax_view::FoundItem;
+use ax_walk::FoundItem;
 
 /// Whether the kind of a link is sure to be no compound and, if it is extended, to have no more than so many parts.
 #[inline]

@@ -6,13 +6,13 @@ ghost use Rattle.ax_moves.specs.Fronts.{cleared, kept_bits};
 ghost use Rattle.ax_moves.specs.Laying.{Begins, Gathers, Lays};
 ghost use Rattle.ax_format.specs.Canonical.{canon};
 ghost use Rattle.ax_format.specs.Sizes.{longest_body};
-ghost use Rattle.ax_view.specs.Shown.{item_kind, item_value};
+ghost use Rattle.ax_walk.specs.Shown.{item_kind, item_value};
 
 use ax_bits::Out;
 use ax_canon::canonical_item;
 use ax_codec::Codec;
 use ax_fspec::{Presence, write_presence};
-use ax_view::ItemView;
+use ax_walk::ItemView;
 
 /// The most octets of a data block.
 pub const LONGEST: u32 = 65_535;

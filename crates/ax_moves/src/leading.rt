@@ -3,10 +3,10 @@ ghost use Rattle.std.specs.Prelude.{◌≡◌, IfSome};
 ghost use Rattle.ax_relation.specs.Standing.{is_there, value_below};
 ghost use Rattle.ax_moves.specs.Lost.{HasParts};
 ghost use Rattle.ax_format.specs.Placed.{has_part, has_part_where};
-ghost use Rattle.ax_view.specs.Shown.{item_value, record_entries};
+ghost use Rattle.ax_walk.specs.Shown.{item_value, record_entries};
 
 use ax_format::Place;
-use ax_view::{ItemView, RecordView};
+use ax_walk::{ItemView, RecordView};
 
 /// Whether an item has the part of that number, or there is no question of a part.
 pub fn has_part(item: &ItemView<'_, '_>, part: Option<u32>) -> bool

@@ -4,11 +4,11 @@ ghost use Rattle.ax_relation.specs.PlainMoves.{move_tree, moves_tree};
 ghost use Rattle.ax_fspec.specs.Marks.{no_marks};
 ghost use Rattle.ax_moves.specs.Octets.{marks_by, move_marks, with_slot};
 ghost use Rattle.ax_moves.specs.Wholes.{whole_entries};
-ghost use Rattle.ax_view.specs.Placing.{IsPlaced};
+ghost use Rattle.ax_walk.specs.Placing.{IsPlaced};
 
 use ax_fspec::Presence;
 use ax_relation::{Move, Moves};
-use ax_view::PlacedSlots;
+use ax_walk::PlacedSlots;
 
 /// Adds a slot from 1 to 126; another number changes nothing.
 #[inline]

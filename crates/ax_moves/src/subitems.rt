@@ -4,7 +4,7 @@ ghost use Rattle.ax_relation.specs.PlainMoves.{moves_tree};
 ghost use Rattle.ax_moves.specs.BySlot.{ArePlaces};
 ghost use Rattle.ax_moves.specs.Subitems.{LacksIn, OthersRemain, RemainsIn, StayWithout, StaysWithout};
 ghost use Rattle.ax_codec.specs.Table.{IsTable, SlotLinksWithin};
-ghost use Rattle.ax_view.specs.Placing.{IsPlaced};
+ghost use Rattle.ax_walk.specs.Placing.{IsPlaced};
 
 use crate::bare::has_none_of;
 use crate::by_slot::{SLOTS, are_ordered, own_move};
@@ -13,7 +13,7 @@ use crate::whole::item_of;
 use ax_codec::Node;
 use ax_fspec::Presence;
 use ax_relation::Move;
-use ax_view::PlacedSlots;
+use ax_walk::PlacedSlots;
 use std::alloc::{AllocError, Global};
 
 /// Whether the subitem of a slot is sure to keep its slot and its canonical octets as it moves: it is no compound, and of an

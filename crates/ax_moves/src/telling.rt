@@ -6,8 +6,8 @@ ghost use Rattle.ax_moves.specs.Laying.{Gathers};
 ghost use Rattle.ax_moves.specs.Lost.{AreRuns, HasParts, IsPassed, is_below, key_paths, losses_below, own_loss, place_numbers};
 ghost use Rattle.ax_moves.specs.Wholes.{whole_codec, whole_entries};
 ghost use Rattle.ax_format.specs.Tree.{marked, no_entries};
-ghost use Rattle.ax_view.specs.Placing.{IsPlaced};
-ghost use Rattle.ax_view.specs.Shown.{item_entries, item_value};
+ghost use Rattle.ax_walk.specs.Placing.{IsPlaced};
+ghost use Rattle.ax_walk.specs.Shown.{item_entries, item_value};
 
 use crate::bare::subitem_slots;
 use crate::laying::lay_octets;
@@ -16,7 +16,7 @@ use crate::lost::{LostKey, Run};
 use crate::whole::item_of;
 use ax_codec::{Codec, Node};
 use ax_fspec::Presence;
-use ax_view::{ItemView, PlacedSlots, Places, place_subitems};
+use ax_walk::{ItemView, PlacedSlots, Places, place_subitems};
 use itoa::Buffer;
 
 /// Lays a number in decimal.

@@ -4,12 +4,12 @@ ghost use Rattle.ax_relation.specs.PlainMoves.{moves_tree};
 ghost use Rattle.ax_fspec.specs.Marks.{no_marks, slots_of};
 ghost use Rattle.ax_moves.specs.KnownMoves.{places_marks, with_places};
 ghost use Rattle.ax_moves.specs.Wholes.{whole_entries};
-ghost use Rattle.ax_view.specs.Placing.{IsPlaced};
+ghost use Rattle.ax_walk.specs.Placing.{IsPlaced};
 
 use crate::marks::{add_moved, add_slot};
 use ax_fspec::Presence;
 use ax_relation::Move;
-use ax_view::PlacedSlots;
+use ax_walk::PlacedSlots;
 
 /// The set of the places of the moves from marked slots.
 pub fn moves_there(whole: &PlacedSlots<'_, '_, '_>, places: &[u8]) -> Presence

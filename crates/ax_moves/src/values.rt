@@ -7,7 +7,7 @@ ghost use Rattle.ax_moves.specs.KnownMoves.{Knows, KnowsOf, KnowsBelow, places_c
 ghost use Rattle.ax_moves.specs.Laying.{Lays};
 ghost use Rattle.ax_moves.specs.Octets.{entries_canon_by, move_canon, whole_canon_by};
 ghost use Rattle.ax_moves.specs.Wholes.{of_whole, whole_codec};
-ghost use Rattle.ax_view.specs.Placing.{IsPlaced};
+ghost use Rattle.ax_walk.specs.Placing.{IsPlaced};
 
 use crate::bare::is_bare;
 use crate::fronts::front;
@@ -20,7 +20,7 @@ use crate::whole::item_of;
 use ax_codec::{Codec, Node};
 use ax_fspec::Presence;
 use ax_relation::{Move, Moves};
-use ax_view::{FoundItem, ItemView, PlacedSlots, Places, place_subitems};
+use ax_walk::{FoundItem, ItemView, PlacedSlots, Places, place_subitems};
 
 /// Lays the value of an item as it moves, of an extended one so many first parts, and answers how many octets were laid: the
 /// item's own octets, where they are that.

@@ -2,10 +2,10 @@
 ghost use Rattle.std.specs.Prelude.{◌≡◌, option_map, IfSome};
 ghost use Rattle.ax_moves.specs.Wholes.{IsInSlot, whole_entries};
 ghost use Rattle.ax_format.specs.At.{slot_value};
-ghost use Rattle.ax_view.specs.Placing.{IsPlaced};
-ghost use Rattle.ax_view.specs.Shown.{item_value};
+ghost use Rattle.ax_walk.specs.Placing.{IsPlaced};
+ghost use Rattle.ax_walk.specs.Shown.{item_value};
 
-use ax_view::{FoundItem, PlacedSlots};
+use ax_walk::{FoundItem, PlacedSlots};
 
 /// The item of a slot. None comes exactly where it isn't marked.
 #[inline(always)]

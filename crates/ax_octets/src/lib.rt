@@ -8,5 +8,5 @@ mod path;
 mod place;
 
 pub use literal::Literal;
-pub use octets::Octets;
-pub use path::Path;
+pub use octets::OctetBuffer;
+pub use path::LinePath;

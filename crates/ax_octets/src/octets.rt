@@ -3,7 +3,7 @@ ghost use Rattle.std.specs.Prelude.{◌≡◌, ◌+◌, ◌<◌, ◌≤◌, ◌^
 
 use crate::digits::place_decimal;
 use crate::literal::Literal;
-use crate::path::Path;
+use crate::path::LinePath;
 use crate::place::{place_octet, place_some, place_text};
 use std::alloc::{AllocError, Global};
 use std::marker::Model;
@@ -14,12 +14,12 @@ const LEAST_ROOM: usize = 256;
 /// Octets that others are appended to. Contracts see those so far. The memory after them is set ahead, so that a piece is
 /// stored with one test; it is kept when they are taken away.
 #[derive(Drop)]
-pub struct Octets {
+pub struct OctetBuffer {
     area: Vec<u8>,
     filled: usize,
 }
 
-impl Model for Octets {
+impl Model for OctetBuffer {
     ghost use Rattle.std.specs.Prelude.{List, ℕ, ◌≤◌, length, take};
 
     ghost Value = { List ℕ };
@@ -29,12 +29,12 @@ impl Model for Octets {
     ghost invariant = { λ o. o.filled ≤ length o.area.items };
 }
 
-impl Octets {
+impl OctetBuffer {
     /// No octets. Takes no memory.
-    pub fn new(alloc: Global) -> Octets
+    pub fn new(alloc: Global) -> OctetBuffer
         ensures { result ≡ [] }
     {
-        Octets {
+        OctetBuffer {
             area: Vec::new(alloc),
             filled: 0,
         }
@@ -58,7 +58,7 @@ impl Octets {
     pub fn into_vec(self) -> Vec<u8>
         ensures { result.items ≡ self }
     {
-        let Octets { mut area, filled } = self;
+        let OctetBuffer { mut area, filled } = self;
         area.truncate(filled);
         area
     }
@@ -180,7 +180,7 @@ impl Octets {
 
     /// Appends a path.
     #[inline(always)]
-    pub fn path(&mut self, path: &Path) -> Result<(), AllocError>
+    pub fn path(&mut self, path: &LinePath) -> Result<(), AllocError>
         ensures { OnOk result (self.new ≡ self.old ++ path.now) }
     {
         if path.count > 32 || !path.rest.is_empty() {
@@ -198,7 +198,7 @@ impl Octets {
 
     #[cold]
     #[inline(never)]
-    fn long_path(&mut self, path: &Path) -> Result<(), AllocError>
+    fn long_path(&mut self, path: &LinePath) -> Result<(), AllocError>
         ensures { OnOk result (self.new ≡ self.old ++ path.now) }
     {
         self.text(&path.front[..path.count])?;
@@ -207,7 +207,7 @@ impl Octets {
 
     /// Appends a path and a literal.
     #[inline(always)]
-    pub fn path_and_literal(&mut self, path: &Path, literal: &Literal) -> Result<(), AllocError>
+    pub fn path_and_literal(&mut self, path: &LinePath, literal: &Literal) -> Result<(), AllocError>
         ensures { OnOk result (self.new ≡ self.old ++ (path.now ++ literal.now)) }
     {
         if path.count > 32 || !path.rest.is_empty() {
@@ -222,7 +222,11 @@ impl Octets {
 
     #[cold]
     #[inline(never)]
-    fn path_and_literal_in_turn(&mut self, path: &Path, literal: &Literal) -> Result<(), AllocError>
+    fn path_and_literal_in_turn(
+        &mut self,
+        path: &LinePath,
+        literal: &Literal,
+    ) -> Result<(), AllocError>
         ensures { OnOk result (self.new ≡ self.old ++ (path.now ++ literal.now)) }
     {
         self.long_path(path)?;
@@ -245,7 +249,7 @@ impl Octets {
     #[inline(always)]
     pub fn named_number(
         &mut self,
-        path: &Path,
+        path: &LinePath,
         name: &[u8],
         count: usize,
         number: u64,
@@ -270,7 +274,7 @@ impl Octets {
     #[inline(never)]
     fn named_number_in_turn(
         &mut self,
-        path: &Path,
+        path: &LinePath,
         name: &[u8],
         count: usize,
         number: u64,

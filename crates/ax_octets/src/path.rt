@@ -8,7 +8,7 @@ use std::marker::Model;
 
 /// A path. Contracts see its octets. A short one stands in place, in an array, and takes no memory.
 #[derive(Drop)]
-pub struct Path {
+pub struct LinePath {
     pub(crate) front: [u8; 64],
     /// How many octets of the array count.
     pub(crate) count: usize,
@@ -16,7 +16,7 @@ pub struct Path {
     pub(crate) rest: Vec<u8>,
 }
 
-impl Model for Path {
+impl Model for LinePath {
     ghost use Rattle.std.specs.Prelude.{List, ℕ, ◌≤◌, ◌≡◌, ◌++◌, length, take};
 
     ghost Value = { List ℕ };
@@ -26,13 +26,13 @@ impl Model for Path {
     ghost invariant = { λ path. (path.count ≤ 64) × (length path.front ≡ 64) };
 }
 
-impl Path {
+impl LinePath {
     /// The empty path. Takes no memory.
     #[inline(always)]
-    pub fn new(alloc: Global) -> Path
+    pub fn new(alloc: Global) -> LinePath
         ensures { result ≡ [] }
     {
-        Path {
+        LinePath {
             front: [0; 64],
             count: 0,
             rest: Vec::new(alloc),
@@ -50,7 +50,12 @@ impl Path {
 
     /// Makes it another path with a slash and a name after it, which is the first `count` of 16 octets. Err is want of memory.
     #[inline(always)]
-    pub fn set_named(&mut self, above: &Path, name: &[u8], count: usize) -> Result<(), AllocError>
+    pub fn set_named(
+        &mut self,
+        above: &LinePath,
+        name: &[u8],
+        count: usize,
+    ) -> Result<(), AllocError>
         requires { (16 ≤ length name.now) × (count ≤ 16) }
         ensures { OnOk result (self.new ≡ above.now ++ (codes "/" ++ take count name.now)) }
     {
@@ -66,7 +71,7 @@ impl Path {
     }
 
     /// Makes it another path with a number in brackets after it. Err is want of memory.
-    pub fn set_numbered(&mut self, above: &Path, number: u32) -> Result<(), AllocError>
+    pub fn set_numbered(&mut self, above: &LinePath, number: u32) -> Result<(), AllocError>
         ensures { OnOk result (self.new ≡ above.now ++ (codes "[" ++ (decimal number ++ codes "]"))) }
     {
         if above.count > 32 || !above.rest.is_empty() {
@@ -83,7 +88,7 @@ impl Path {
 
     #[cold]
     #[inline(never)]
-    fn set_longer_by_number(&mut self, above: &Path, number: u32) -> Result<(), AllocError>
+    fn set_longer_by_number(&mut self, above: &LinePath, number: u32) -> Result<(), AllocError>
         ensures { OnOk result (self.new ≡ above.now ++ (codes "[" ++ (decimal number ++ codes "]"))) }
     {
         let mut room = [0; 24];
@@ -96,7 +101,12 @@ impl Path {
     /// Makes it another path with two texts after it, which stand where no array's room is asked for.
     #[cold]
     #[inline(never)]
-    fn set_longer(&mut self, above: &Path, first: &[u8], second: &[u8]) -> Result<(), AllocError>
+    fn set_longer(
+        &mut self,
+        above: &LinePath,
+        first: &[u8],
+        second: &[u8],
+    ) -> Result<(), AllocError>
         ensures { OnOk result (self.new ≡ above.now ++ (first.now ++ second.now)) }
     {
         self.count = 0;

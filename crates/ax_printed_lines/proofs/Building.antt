@@ -2,15 +2,15 @@
 use Rattle.std.proofs.Common.{◌≡◌, ℕ, List, [], ◌++◌, refl, sym, ◌∙◌, ap, subst, append_assoc}
 use Rattle.ax_printed_lines.proofs.Laying.{lays_none, lays_more}
 use Rattle.ax_printed_lines.specs.Laid.{Lays}
-use Rattle.ax_printed_lines.specs.declared.laid.Laid.{Laid}
-use Rattle.ax_text.specs.ValueText.{Texts}
+use Rattle.ax_printed_lines.specs.declared.laid.LaidBits.{LaidBits}
+use Rattle.ax_text_form.specs.ValueText.{Texts}
 use Rattle.ax_printed_lines.specs.Printed.{Place, Goes, IsBuilt}
 use Rattle.ax_printed_lines.proofs.Going.{goes_none, goes_both, goes_same}
 
 -- ---- the same under another name
 
 -- texts in front of something that was built, which is all that is built of another thing
-pub built_after : {X Y : Type 0} (Q : X → Type 0) (inner : X → Texts) (bits : X → List ℕ) (R : Y → Type 0) (onto : Y → Texts) (spell : Y → List ℕ) (front : Texts) (old mid new : Place) (before after : Laid) → Goes old mid front → IsBuilt Q inner bits mid new before after
+pub built_after : {X Y : Type 0} (Q : X → Type 0) (inner : X → Texts) (bits : X → List ℕ) (R : Y → Type 0) (onto : Y → Texts) (spell : Y → List ℕ) (front : Texts) (old mid new : Place) (before after : LaidBits) → Goes old mid front → IsBuilt Q inner bits mid new before after
     → ((x : X) → Q x → (y : Y) × R y × (onto y ≡ front ++ inner x) × (spell y ≡ bits x)) → IsBuilt R onto spell old new before after
 built_after Q inner bits R onto spell front old mid new before after g b f =
     let y = f b.value b.shape in record {
@@ -20,25 +20,25 @@ built_after Q inner bits R onto spell front old mid new before after g b f =
       lays = subst (λ w. Lays before after w) (sym y.3) b.lays;
     }
 
-pub built_as : {X Y : Type 0} (Q : X → Type 0) (inner : X → Texts) (bits : X → List ℕ) (R : Y → Type 0) (onto : Y → Texts) (spell : Y → List ℕ) (old new : Place) (before after : Laid) → IsBuilt Q inner bits old new before after
+pub built_as : {X Y : Type 0} (Q : X → Type 0) (inner : X → Texts) (bits : X → List ℕ) (R : Y → Type 0) (onto : Y → Texts) (spell : Y → List ℕ) (old new : Place) (before after : LaidBits) → IsBuilt Q inner bits old new before after
     → ((x : X) → Q x → (y : Y) × R y × (onto y ≡ inner x) × (spell y ≡ bits x)) → IsBuilt R onto spell old new before after
 built_as Q inner bits R onto spell old new before after b f = built_after Q inner bits R onto spell [] old old new before after (goes_none old) b f
 
 -- ---- a part of the whole
 
 -- of the whole a front was built, and what has the shape S, with these texts and bits, is left
-pub record Partly {X Y : Type 0} (R : X → Type 0) (onto : X → Texts) (spell : X → List ℕ) (S : Y → Type 0) (left : Y → Texts) (bits : Y → List ℕ) (old now : Place) (before after : Laid) : Type 0 where
+pub record Partly {X Y : Type 0} (R : X → Type 0) (onto : X → Texts) (spell : X → List ℕ) (S : Y → Type 0) (left : Y → Texts) (bits : Y → List ℕ) (old now : Place) (before after : LaidBits) : Type 0 where
   pub front : Texts
   pub goes : Goes old now front
   pub word : List ℕ
   pub lays : Lays before after word
   pub whole : (y : Y) → S y → (x : X) × R x × (onto x ≡ front ++ left y) × (spell x ≡ word ++ bits y)
 
-pub partly_first : {X : Type 0} (R : X → Type 0) (onto : X → Texts) (spell : X → List ℕ) (old : Place) (before : Laid) → Partly R onto spell R onto spell old old before before
+pub partly_first : {X : Type 0} (R : X → Type 0) (onto : X → Texts) (spell : X → List ℕ) (old : Place) (before : LaidBits) → Partly R onto spell R onto spell old old before before
 partly_first R onto spell old before = record { front = []; goes = goes_none old; word = []; lays = lays_none before; whole = λ x h. (x, h, refl, refl) }
 
 pub partly_more : {X Y Z T : Type 0} (R : X → Type 0) (onto : X → Texts) (spell : X → List ℕ) (S : Y → Type 0) (left : Y → Texts) (bits : Y → List ℕ) (Q : T → Type 0) (one : T → Texts) (one_bits : T → List ℕ) (N : Z → Type 0) (later : Z → Texts) (later_bits : Z → List ℕ)
-    (old now new : Place) (before mid after : Laid) → Partly R onto spell S left bits old now before mid → IsBuilt Q one one_bits now new mid after
+    (old now new : Place) (before mid after : LaidBits) → Partly R onto spell S left bits old now before mid → IsBuilt Q one one_bits now new mid after
     → ((t : T) (z : Z) → Q t → N z → (y : Y) × S y × (left y ≡ one t ++ later z) × (bits y ≡ one_bits t ++ later_bits z)) → Partly R onto spell N later later_bits old new before after
 partly_more R onto spell S left bits Q one one_bits N later later_bits old now new before mid after p b f = record {
   front = p.front ++ one b.value;
@@ -53,7 +53,7 @@ partly_more R onto spell S left bits Q one one_bits N later later_bits old now n
 }
 
 -- what is left is seen otherwise
-pub partly_as : {X Y Z : Type 0} (R : X → Type 0) (onto : X → Texts) (spell : X → List ℕ) (S : Y → Type 0) (left : Y → Texts) (bits : Y → List ℕ) (N : Z → Type 0) (later : Z → Texts) (later_bits : Z → List ℕ) (old now : Place) (before after : Laid)
+pub partly_as : {X Y Z : Type 0} (R : X → Type 0) (onto : X → Texts) (spell : X → List ℕ) (S : Y → Type 0) (left : Y → Texts) (bits : Y → List ℕ) (N : Z → Type 0) (later : Z → Texts) (later_bits : Z → List ℕ) (old now : Place) (before after : LaidBits)
     → Partly R onto spell S left bits old now before after → ((z : Z) → N z → (y : Y) × S y × (left y ≡ later z) × (bits y ≡ later_bits z)) → Partly R onto spell N later later_bits old now before after
 partly_as R onto spell S left bits N later later_bits old now before after p f = record {
   front = p.front;
@@ -67,7 +67,7 @@ partly_as R onto spell S left bits N later later_bits old now before after p f =
       );
 }
 
-pub partly_done : {X Y : Type 0} (R : X → Type 0) (onto : X → Texts) (spell : X → List ℕ) (S : Y → Type 0) (left : Y → Texts) (bits : Y → List ℕ) (old now new : Place) (before mid after : Laid) → Partly R onto spell S left bits old now before mid → IsBuilt S left bits now new mid after
+pub partly_done : {X Y : Type 0} (R : X → Type 0) (onto : X → Texts) (spell : X → List ℕ) (S : Y → Type 0) (left : Y → Texts) (bits : Y → List ℕ) (old now new : Place) (before mid after : LaidBits) → Partly R onto spell S left bits old now before mid → IsBuilt S left bits now new mid after
     → IsBuilt R onto spell old new before after
 partly_done R onto spell S left bits old now new before mid after p b =
     let x = p.whole b.value b.shape in record {
@@ -78,11 +78,11 @@ partly_done R onto spell S left bits old now new before mid after p b =
     }
 
 -- something without bits
-pub built_bare : {X : Type 0} (R : X → Type 0) (onto : X → Texts) (spell : X → List ℕ) (x : X) (old new : Place) (out : Laid) → R x → Goes old new (onto x) → spell x ≡ [] → IsBuilt R onto spell old new out out
+pub built_bare : {X : Type 0} (R : X → Type 0) (onto : X → Texts) (spell : X → List ℕ) (x : X) (old new : Place) (out : LaidBits) → R x → Goes old new (onto x) → spell x ≡ [] → IsBuilt R onto spell old new out out
 built_bare R onto spell x old new out h g e = record { value = x; shape = h; goes = g; lays = subst (λ w. Lays out out w) (sym e) (lays_none out) }
 
 -- bits after what was built
-pub built_and : {X Y : Type 0} (Q : X → Type 0) (inner : X → Texts) (bits : X → List ℕ) (R : Y → Type 0) (onto : Y → Texts) (spell : Y → List ℕ) (following : Texts) (more : List ℕ) (old mid new : Place) (before middle after : Laid) → IsBuilt Q inner bits old mid before middle → Goes mid new following → Lays middle after more
+pub built_and : {X Y : Type 0} (Q : X → Type 0) (inner : X → Texts) (bits : X → List ℕ) (R : Y → Type 0) (onto : Y → Texts) (spell : Y → List ℕ) (following : Texts) (more : List ℕ) (old mid new : Place) (before middle after : LaidBits) → IsBuilt Q inner bits old mid before middle → Goes mid new following → Lays middle after more
     → ((x : X) → Q x → (y : Y) × R y × (onto y ≡ inner x ++ following) × (spell y ≡ bits x ++ more)) → IsBuilt R onto spell old new before after
 built_and Q inner bits R onto spell following more old mid new before middle after b g a f =
     let y = f b.value b.shape in record {

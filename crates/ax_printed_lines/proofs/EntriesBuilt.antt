@@ -3,8 +3,8 @@ use Rattle.std.proofs.Common.{◌≡◌, ℕ, zero, suc, ◌+◌, ◌-◌, ◌<�
 use Rattle.std.specs.Prelude.{◌==◌, MatchBool}
 use Rattle.std.proofs.lemmas.Bool.{eq-eqb, eqb-true, ne_eqb}
 use Rattle.std.proofs.lemmas.List.{drop_more, take_more_set, drop-set-lt, length-set, length-replicate}
-use Rattle.ax_printed_lines.specs.declared.laid.Laid.{Laid}
-use Rattle.ax_text.proofs.Onto.{kind_more}
+use Rattle.ax_printed_lines.specs.declared.laid.LaidBits.{LaidBits}
+use Rattle.ax_text_form.proofs.Onto.{kind_more}
 use Rattle.ax_fspec.proofs.FieldLaws.{least_field_of, none_further}
 use Rattle.ax_fspec.specs.Fields.{least_field}
 use Rattle.ax_fspec.specs.Marks.{no_marks}
@@ -14,8 +14,8 @@ use Rattle.ax_format.specs.InBounds.{SlotsInBounds}
 use Rattle.ax_format.specs.Presence.{octets_needed, none_marked, least_presence}
 use Rattle.ax_format.specs.Shape.{Shape, EntriesShape}
 use Rattle.ax_format.specs.Tree.{SlotTree, spare_slot, subitem, SlotsTree, no_slots, slot_and, slot_count, ValueTree, EntriesTree, no_entries, entry_and}
-use Rattle.ax_text.specs.Slots.{SlotShape, slot_onto}
-use Rattle.ax_text.specs.ValueText.{closing, kind_onto, entries_onto}
+use Rattle.ax_text_form.specs.Slots.{SlotShape, slot_onto}
+use Rattle.ax_text_form.specs.ValueText.{closing, kind_onto, entries_onto}
 use Rattle.ax_printed_lines.specs.Printed.{Place, Goes, IsBuilt, AreSlots, BuildsSlot, HasMarks, slot_canon}
 use Rattle.ax_printed_lines.proofs.Building.{Partly, partly_first, partly_more, partly_as, partly_done, built_bare, built_as}
 use Rattle.ax_printed_lines.proofs.Going.{less_left}
@@ -76,7 +76,7 @@ taken s (subitem name kind) ss v es h k =
 abbrev WithMarks : SlotsTree → ℕ → List ℕ → EntriesTree → Type 0
 WithMarks ss s marks es = EntriesShape s ss es × (marks_of s ss es ≡ marks)
 
-pub record EntriesLeft (all : SlotsTree) (marks : List ℕ) (i : ℕ) (ss : SlotsTree) (old now : Place) (before after : Laid) : Type 0 where
+pub record EntriesLeft (all : SlotsTree) (marks : List ℕ) (i : ℕ) (ss : SlotsTree) (old now : Place) (before after : LaidBits) : Type 0 where
   pub built : (whole more : List ℕ) → whole ≡ take i marks ++ more
       → Partly (WithMarks all 1 whole) (λ es. entries_onto 1 all es (closing ∷ [])) (entries_canon 1 all) (WithMarks ss (i + 1) more) (λ es. entries_onto (i + 1) ss es (closing ∷ [])) (entries_canon (i + 1) ss) old now before after
   pub size : length marks ≡ 126
@@ -86,7 +86,7 @@ pub record EntriesLeft (all : SlotsTree) (marks : List ℕ) (i : ℕ) (ss : Slot
   pub few : slot_count all ≤ 126
   pub some : 0 < slot_count all
 
-pub entries_first : (ss : SlotsTree) (marks : List ℕ) (old : Place) (out : Laid) → AreSlots ss → marks ≡ no_marks → EntriesLeft ss marks 0 ss old old out out
+pub entries_first : (ss : SlotsTree) (marks : List ℕ) (old : Place) (out : LaidBits) → AreSlots ss → marks ≡ no_marks → EntriesLeft ss marks 0 ss old old out out
 unfolding no_marks
 entries_first ss marks old out h e = record {
   built = λ whole more is. (
@@ -112,13 +112,13 @@ bounds_and spare_slot ss h = (tt, h)
 bounds_and (subitem name k) ss h = ((h.0, tt), h.1)
 
 module _ (all : SlotsTree) (i : ℕ) (slot : SlotTree) (ss here : SlotsTree) (is : here ≡ slot_and slot ss) where
-  pub slot_bounds : (marks : List ℕ) (old now : Place) (before after : Laid) → EntriesLeft all marks i here old now before after → SlotsInBounds (slot_and slot no_slots)
+  pub slot_bounds : (marks : List ℕ) (old now : Place) (before after : LaidBits) → EntriesLeft all marks i here old now before after → SlotsInBounds (slot_and slot no_slots)
   slot_bounds marks old now before after l = (bounds_and slot ss (subst SlotsInBounds is l.bounds)).0
 
-  pub slot_few : (marks : List ℕ) (old now : Place) (before after : Laid) → EntriesLeft all marks i here old now before after → i + 1 ≤ 126
+  pub slot_few : (marks : List ℕ) (old now : Place) (before after : LaidBits) → EntriesLeft all marks i here old now before after → i + 1 ≤ 126
   slot_few marks old now before after l = let n : slot_count here ≡ suc (slot_count ss) = ap slot_count is in omega (arith, l.count, l.few, n)
 
-  pub entry_passed : (marks : List ℕ) (old now : Place) (before after : Laid) → EntriesLeft all marks i here old now before after → EntriesLeft all marks (i + 1) ss old now before after
+  pub entry_passed : (marks : List ℕ) (old now : Place) (before after : LaidBits) → EntriesLeft all marks i here old now before after → EntriesLeft all marks (i + 1) ss old now before after
   entry_passed marks old now before after h =
       let l : EntriesLeft all marks i (slot_and slot ss) old now before after = subst (λ z. EntriesLeft all marks i z old now before after) is h in
       let n : slot_count here ≡ suc (slot_count ss) = ap slot_count is in
@@ -138,7 +138,7 @@ module _ (all : SlotsTree) (i : ℕ) (slot : SlotTree) (ss here : SlotsTree) (is
         some = l.some;
       }
 
-  pub entry_taken : (marks new : List ℕ) (old now next : Place) (before mid after : Laid) → EntriesLeft all marks i here old now before mid → new ≡ set marks (i + 1 - 1) 1 → IsBuilt (SlotShape slot) (λ v. slot_onto slot v []) (slot_canon slot) now next mid after → EntriesLeft all new (i + 1) ss old next before after
+  pub entry_taken : (marks new : List ℕ) (old now next : Place) (before mid after : LaidBits) → EntriesLeft all marks i here old now before mid → new ≡ set marks (i + 1 - 1) 1 → IsBuilt (SlotShape slot) (λ v. slot_onto slot v []) (slot_canon slot) now next mid after → EntriesLeft all new (i + 1) ss old next before after
   entry_taken marks new old now next before mid after h f b =
       let l : EntriesLeft all marks i (slot_and slot ss) old now before mid = subst (λ z. EntriesLeft all marks i z old now before mid) is h in
       let g : new ≡ set marks i 1 = f ∙ ap (λ k. set marks k 1) (let z : i + 1 - 1 ≡ i = omega arith in z) in
@@ -159,7 +159,7 @@ module _ (all : SlotsTree) (i : ℕ) (slot : SlotTree) (ss here : SlotsTree) (is
         some = l.some;
       }
 
-pub entries_done : (all : SlotsTree) (marks : List ℕ) (i : ℕ) (here : SlotsTree) (old now new : Place) (before after : Laid) → here ≡ no_slots → EntriesLeft all marks i here old now before after → Goes now new (closing ∷ [])
+pub entries_done : (all : SlotsTree) (marks : List ℕ) (i : ℕ) (here : SlotsTree) (old now new : Place) (before after : LaidBits) → here ≡ no_slots → EntriesLeft all marks i here old now before after → Goes now new (closing ∷ [])
     → IsBuilt (HasMarks all marks) (λ es. entries_onto 1 all es (closing ∷ [])) (entries_canon 1 all) old new before after
 entries_done all marks i here old now new before after is h g =
     let l : EntriesLeft all marks i no_slots old now before after = subst (λ z. EntriesLeft all marks i z old now before after) is h in
@@ -174,7 +174,7 @@ entries_done all marks i here old now new before after is h g =
     (λ es k. (es, (k.0, least ∙ ap (least_presence (octets_needed (slot_count all))) (sym k.1)), refl, refl))
 
 -- slots up to a later one are passed
-module _ {X : Type 0} (all : SlotsTree) (one : X → SlotTree) (tree : List X → SlotsTree) (first : (x : X) (xs : List X) → tree (x ∷ xs) ≡ slot_and (one x) (tree xs)) (list : List X) (d : X) (marks : List ℕ) (old now : Place) (before after : Laid) where
+module _ {X : Type 0} (all : SlotsTree) (one : X → SlotTree) (tree : List X → SlotsTree) (first : (x : X) (xs : List X) → tree (x ∷ xs) ≡ slot_and (one x) (tree xs)) (list : List X) (d : X) (marks : List ℕ) (old now : Place) (before after : LaidBits) where
   pub slot_there : (i : ℕ) → i < length list → tree (drop i list) ≡ slot_and (one (get_or list i d)) (tree (drop (i + 1) list))
   slot_there i lt = ap tree (drop_more list i d lt) ∙ first (get_or list i d) (drop (i + 1) list)
 
@@ -190,21 +190,21 @@ module _ {X : Type 0} (all : SlotsTree) (one : X → SlotTree) (tree : List X �
       subst (λ k. EntriesLeft all marks k (tree (drop k list)) old now before after) e (passed_over (j - i) i (omega (arith, e, within)) h)
 
 -- the later slots are all passed, where the brace comes
-all_passed : (all : SlotsTree) (ss : SlotsTree) (i : ℕ) (marks : List ℕ) (old now : Place) (before after : Laid) → EntriesLeft all marks i ss old now before after → (j : ℕ) × EntriesLeft all marks j no_slots old now before after
+all_passed : (all : SlotsTree) (ss : SlotsTree) (i : ℕ) (marks : List ℕ) (old now : Place) (before after : LaidBits) → EntriesLeft all marks i ss old now before after → (j : ℕ) × EntriesLeft all marks j no_slots old now before after
 all_passed all no_slots i marks old now before after h = (i, h)
 all_passed all (slot_and slot ss) i marks old now before after h = all_passed all ss (i + 1) marks old now before after (entry_passed all i slot ss (slot_and slot ss) refl marks old now before after h)
 
-pub entries_ended : (all : SlotsTree) (marks : List ℕ) (i : ℕ) (here : SlotsTree) (old now new : Place) (before after : Laid) → EntriesLeft all marks i here old now before after → Goes now new (closing ∷ [])
+pub entries_ended : (all : SlotsTree) (marks : List ℕ) (i : ℕ) (here : SlotsTree) (old now new : Place) (before after : LaidBits) → EntriesLeft all marks i here old now before after → Goes now new (closing ∷ [])
     → IsBuilt (HasMarks all marks) (λ es. entries_onto 1 all es (closing ∷ [])) (entries_canon 1 all) old new before after
 entries_ended all marks i here old now new before after h g =
     let l = all_passed all here i marks old now before after h in entries_done all marks l.0 no_slots old now new before after refl l.1 g
 
-pub entries_less : (all : SlotsTree) (marks : List ℕ) (i : ℕ) (here : SlotsTree) (old now : Place) (before after : Laid) → EntriesLeft all marks i here old now before after → length now.left ≤ length old.left
+pub entries_less : (all : SlotsTree) (marks : List ℕ) (i : ℕ) (here : SlotsTree) (old now : Place) (before after : LaidBits) → EntriesLeft all marks i here old now before after → length now.left ≤ length old.left
 entries_less all marks i here old now before after l = let p = l.built (take i marks) [] (sym (append-nil (take i marks))) in less_left old now p.front p.goes
 
 -- what a call for the slot gives, by whether its name came
-pub entry_passed_by : (slot : SlotTree) (came : Bool) (now next : Place) (mid after : Laid) → came ≡ false → BuildsSlot slot came now next mid after → (next ≡ now) × (after ≡ mid)
+pub entry_passed_by : (slot : SlotTree) (came : Bool) (now next : Place) (mid after : LaidBits) → came ≡ false → BuildsSlot slot came now next mid after → (next ≡ now) × (after ≡ mid)
 entry_passed_by slot came now next mid after e h = subst (λ b. BuildsSlot slot b now next mid after) e h
 
-pub entry_taken_by : (slot : SlotTree) (came : Bool) (now next : Place) (mid after : Laid) → came ≡ true → BuildsSlot slot came now next mid after → IsBuilt (SlotShape slot) (λ v. slot_onto slot v []) (slot_canon slot) now next mid after
+pub entry_taken_by : (slot : SlotTree) (came : Bool) (now next : Place) (mid after : LaidBits) → came ≡ true → BuildsSlot slot came now next mid after → IsBuilt (SlotShape slot) (λ v. slot_onto slot v []) (slot_canon slot) now next mid after
 entry_taken_by slot came now next mid after e h = subst (λ b. BuildsSlot slot b now next mid after) e h

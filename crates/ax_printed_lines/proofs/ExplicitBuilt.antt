@@ -5,11 +5,11 @@ use Rattle.ax_printed_lines.proofs.Laying.{lays_none, lays_more}
 use Rattle.ax_bits.proofs.Words.{bits-append}
 use Rattle.ax_bits.specs.Bits.{word, bits, AreOctets}
 use Rattle.ax_printed_lines.specs.Laid.{Lays}
-use Rattle.ax_printed_lines.specs.declared.laid.Laid.{Laid}
+use Rattle.ax_printed_lines.specs.declared.laid.LaidBits.{LaidBits}
 use Rattle.ax_format.specs.Canonical.{canon}
 use Rattle.ax_format.specs.Shape.{Shape}
 use Rattle.ax_format.specs.Tree.{explicit, content_octets}
-use Rattle.ax_text.specs.ValueText.{hex_text, kind_onto}
+use Rattle.ax_text_form.specs.ValueText.{hex_text, kind_onto}
 use Rattle.ax_printed_lines.specs.Printed.{Place, Goes, IsBuilt, AreDigits, digit_text}
 
 -- ---- digits
@@ -57,13 +57,13 @@ octet_here high low h l a e b f =
     (omega arith, (λ i. (e ∙ ap digit_text top) i ∷ (f ∙ ap digit_text rest) i ∷ []))
 
 -- the octets before what is left were written
-pub record DigitsLeft (digits left : List ℕ) (before after : Laid) : Type 0 where
+pub record DigitsLeft (digits left : List ℕ) (before after : LaidBits) : Type 0 where
   pub octets : List ℕ
   pub each : AreOctets octets
   pub text : digits ≡ encode_lower octets ++ left
   pub lays : Lays before after (bits octets)
 
-pub digits_first : (digits : List ℕ) (out : Laid) → DigitsLeft digits digits out out
+pub digits_first : (digits : List ℕ) (out : LaidBits) → DigitsLeft digits digits out out
 unfolding encode_with
 digits_first digits out = record { octets = []; each = tt; text = refl; lays = lays_none out }
 
@@ -76,7 +76,7 @@ octets_both : (a : List ℕ) (x : ℕ) → AreOctets a → x < 256 → AreOctets
 octets_both [] x h lt = (lt, tt)
 octets_both (y ∷ a) x h lt = (h.0, octets_both a x h.1 lt)
 
-pub digits_next : (digits left later : List ℕ) (high low octet : ℕ) (following : List ℕ) (before mid after : Laid) → DigitsLeft digits left before mid → left ≡ high ∷ following → following ≡ low ∷ later → octet < 256 → high ∷ low ∷ [] ≡ encode_lower (octet ∷ []) → Lays mid after (word 8 octet)
+pub digits_next : (digits left later : List ℕ) (high low octet : ℕ) (following : List ℕ) (before mid after : LaidBits) → DigitsLeft digits left before mid → left ≡ high ∷ following → following ≡ low ∷ later → octet < 256 → high ∷ low ∷ [] ≡ encode_lower (octet ∷ []) → Lays mid after (word 8 octet)
     → DigitsLeft digits later before after
 digits_next digits left later high low octet following before mid after l e f lt is a =
     let split : left ≡ (high ∷ low ∷ []) ++ later = e ∙ ap (λ t. high ∷ t) f in
@@ -87,7 +87,7 @@ digits_next digits left later high low octet following before mid after l e f lt
       lays = lays_more before mid after (bits l.octets) (word 8 octet) (bits (l.octets ++ octet ∷ [])) (bits-append l.octets (octet ∷ [])) l.lays a;
     }
 
-pub digits_done : (digits left : List ℕ) (before after : Laid) → DigitsLeft digits left before after → left ≡ [] → AreDigits digits before after
+pub digits_done : (digits left : List ℕ) (before after : LaidBits) → DigitsLeft digits left before after → left ≡ [] → AreDigits digits before after
 digits_done digits left before after l e = record { octets = l.octets; each = l.each; text = l.text ∙ ap (λ t. encode_lower l.octets ++ t) e ∙ nothing (encode_lower l.octets); lays = l.lays }
   where
     nothing : (xs : List ℕ) → xs ++ [] ≡ xs
@@ -101,7 +101,7 @@ unfolding encode_with
 count_of [] = refl
 count_of (x ∷ octets) = omega (arith, count_of octets)
 
-pub explicit_is_built : (digits : List ℕ) (count : ℕ) (old new : Place) (before mid after : Laid) → ((octets : List ℕ) → AreOctets octets → digits ≡ encode_lower octets → Goes old new (hex_text octets ∷ [])) → count ≡ length digits / 2 → count ≤ 254
+pub explicit_is_built : (digits : List ℕ) (count : ℕ) (old new : Place) (before mid after : LaidBits) → ((octets : List ℕ) → AreOctets octets → digits ≡ encode_lower octets → Goes old new (hex_text octets ∷ [])) → count ≡ length digits / 2 → count ≤ 254
     → Lays before mid (word 8 (count + 1)) → AreDigits digits mid after → IsBuilt (Shape explicit) (λ v. kind_onto explicit v []) (canon explicit) old new before after
 explicit_is_built digits count old new before mid after g is few a d =
     let n : count ≡ length d.octets = omega (arith, is, ap length d.text, count_of d.octets) in

@@ -8,8 +8,8 @@ use Rattle.ax_bits.specs.Bits.{AreOctets}
 use Rattle.ax_tokens.specs.Octets.{quote}
 use Rattle.ax_format.specs.Characters.{IsName}
 use Rattle.ax_format.specs.Paths.{three_digits}
-use Rattle.ax_text.proofs.WordTokens.{IsWord, decimal_word, name_word, category_word, hex_token}
-use Rattle.ax_text.specs.ValueText.{Texts, opening, closing, hex_text}
+use Rattle.ax_text_form.proofs.WordTokens.{IsWord, decimal_word, name_word, category_word, hex_token}
+use Rattle.ax_text_form.specs.ValueText.{Texts, opening, closing, hex_text}
 use Rattle.ax_tokens.specs.Depth.{level_after}
 use Rattle.ax_tokens.specs.Lexing.{IsTokenText, MayFollow}
 use Rattle.ax_tokens.specs.declared.token.TokenKind.{TokenKind}

@@ -10,14 +10,14 @@ use Rattle.ax_bits.proofs.Pieces.{word-split, word-low, word-joined, take-bits}
 use Rattle.ax_bits.proofs.Steps.{joined_below as below_joined}
 use Rattle.ax_bits.proofs.Words.{bits-append, length-word}
 use Rattle.ax_printed_lines.specs.Laid.{laid, Lays}
-use Rattle.ax_printed_lines.specs.declared.laid.Laid.{Laid}
+use Rattle.ax_printed_lines.specs.declared.laid.LaidBits.{LaidBits}
 
 -- ---- bits after others
 
-pub lays_none : (out : Laid) → Lays out out []
+pub lays_none : (out : LaidBits) → Lays out out []
 lays_none out = sym (append-nil (laid out))
 
-pub lays_more : (old now new : Laid) (x y z : List ℕ) → z ≡ x ++ y → Lays old now x → Lays now new y → Lays old new z
+pub lays_more : (old now new : LaidBits) (x y z : List ℕ) → z ≡ x ++ y → Lays old now x → Lays now new y → Lays old new z
 lays_more old now new x y z e p q = q ∙ ap (λ k. k ++ y) p ∙ append_assoc (laid old) x y ∙ ap (λ k. laid old ++ k) (sym e)
 
 -- ---- a value

@@ -4,8 +4,8 @@ use Rattle.std.specs.Prelude.{codes, ◌==◌}
 use Rattle.std.proofs.lemmas.Bool.{eqb-true, and_parts}
 use Rattle.std.specs.List.{list_all}
 use Rattle.ax_bits.proofs.Pieces.{bits-injective}
-use Rattle.ax_printed_lines.specs.declared.laid.Laid.{Laid}
-use Rattle.ax_text.proofs.Onto.{entries_more}
+use Rattle.ax_printed_lines.specs.declared.laid.LaidBits.{LaidBits}
+use Rattle.ax_text_form.proofs.Onto.{entries_more}
 use Rattle.ax_format.specs.Blocks.{read_block}
 use Rattle.ax_format.specs.Bodies.{CanonBody}
 use Rattle.ax_format.specs.CanonicalOctets.{octets_of, framed}
@@ -14,10 +14,10 @@ use Rattle.ax_format.specs.Paths.{three_digits}
 use Rattle.ax_format.specs.Specification.{SpecTree, record_slots, spec_of}
 use Rattle.ax_format.specs.Streams.{FitsOver}
 use Rattle.ax_format.specs.Tree.{EntriesTree}
-use Rattle.ax_text.proofs.WordTokens.{block_is_word}
-use Rattle.ax_text.specs.BlockText.{records_onto, BlockText}
-use Rattle.ax_text.specs.Tokens.{kind_of}
-use Rattle.ax_text.specs.ValueText.{Texts, opening, closing, entries_onto}
+use Rattle.ax_text_form.proofs.WordTokens.{block_is_word}
+use Rattle.ax_text_form.specs.BlockText.{records_onto, BlockText}
+use Rattle.ax_text_form.specs.Tokens.{kind_of}
+use Rattle.ax_text_form.specs.ValueText.{Texts, opening, closing, entries_onto}
 use Rattle.ax_tokens.proofs.Levels.{keeps_within}
 use Rattle.ax_tokens.specs.Depth.{level_after, KeepsWithin}
 use Rattle.ax_tokens.specs.Gap.{IsGap, no_octet, separator}
@@ -76,7 +76,7 @@ found_category category [] spec e = absurd cc
 found_category category (first ∷ catalogue) spec e = found_case (first.category == category) first spec category (spec_of category catalogue) refl (found_category category catalogue spec) e
 
 module _ (catalogue : List SpecTree) (spec : SpecTree) (category : ℕ) (line : List ℕ) (known : Some spec ≡ spec_of category catalogue) (none : NoFlaw spec) (small : category < 256) where
-  pub line_printed : (old named numbered opened new : Place) (before after : Laid) → AfterGap line old.left → old.level ≡ 0 → (IsOneWord (codes "block") → Goes old named (codes "block" ∷ [])) → Goes named numbered (three_digits category ∷ []) → Goes numbered opened (opening ∷ [])
+  pub line_printed : (old named numbered opened new : Place) (before after : LaidBits) → AfterGap line old.left → old.level ≡ 0 → (IsOneWord (codes "block") → Goes old named (codes "block" ∷ [])) → Goes named numbered (three_digits category ∷ []) → Goes numbered opened (opening ∷ [])
       → AreRecords spec opened new before after → IsAfterOctet 125 new.left [] → new.level ≤ 20 → IsPrinted catalogue line category before after
   line_printed old named numbered opened new before after gap start g d o b end low =
       let rs = b.value in

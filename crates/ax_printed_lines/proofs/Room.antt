@@ -6,7 +6,7 @@ use Rattle.ax_bits.specs.Bits.{bits}
 use Rattle.ax_bits.proofs.Pieces.{take-bits, drop-bits}
 use Rattle.ax_bits.proofs.Words.{bits-append, length-bits}
 use Rattle.ax_printed_lines.specs.Laid.{laid, Lays, Leaves, Fills}
-use Rattle.ax_printed_lines.specs.declared.laid.Laid.{Laid}
+use Rattle.ax_printed_lines.specs.declared.laid.LaidBits.{LaidBits}
 
 -- ---- octets that are moved up
 
@@ -101,14 +101,14 @@ room_left all held count room within none = (
 )
 
 -- the same where what was laid is held otherwise before
-pub leaves_after : (old mid new : Laid) (n room : ℕ) → laid mid ≡ laid old → Leaves mid new n room → Leaves old new n room
+pub leaves_after : (old mid new : LaidBits) (n room : ℕ) → laid mid ≡ laid old → Leaves mid new n room → Leaves old new n room
 leaves_after old mid new n room e l = record { there = l.there; lays = l.lays ∙ ap (λ w. w ++ l.there) e; size = l.size; before = ap length (sym e) ∙ l.before }
 
-pub fills_after : (old mid new : Laid) (n room : ℕ) (b : List ℕ) → laid mid ≡ laid old → Fills mid new n room b → Fills old new n room b
+pub fills_after : (old mid new : LaidBits) (n room : ℕ) (b : List ℕ) → laid mid ≡ laid old → Fills mid new n room b → Fills old new n room b
 fills_after old mid new n room b e f = f ∙ ap (λ w. take (8 * n) w ++ (b ++ drop (8 * n + 8 * room) w)) e
 
 -- what was laid behind room stands behind the bits by which that is filled
-pub left_filled : (old mid last new : Laid) (n room : ℕ) (inner b : List ℕ) → Leaves old mid n room → Lays mid last inner → Fills last new n room b → Lays old new (b ++ inner)
+pub left_filled : (old mid last new : LaidBits) (n room : ℕ) (inner b : List ℕ) → Leaves old mid n room → Lays mid last inner → Fills last new n room b → Lays old new (b ++ inner)
 left_filled old mid last new n room inner b l p f =
     let all : laid last ≡ laid old ++ (l.there ++ inner) = p ∙ ap (λ w. w ++ inner) l.lays ∙ append_assoc (laid old) l.there inner in
     let front : take (8 * n) (laid last) ≡ laid old = ap (take (8 * n)) all ∙ take_at (laid old) (l.there ++ inner) (8 * n) l.before in

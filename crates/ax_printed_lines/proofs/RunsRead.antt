@@ -10,11 +10,11 @@ use Rattle.ax_bits.proofs.Steps.{joined_below}
 use Rattle.ax_bits.proofs.Words.{length-word}
 use Rattle.ax_printed_lines.proofs.Fronts.{octets_front, xor_none}
 use Rattle.ax_printed_lines.specs.Runs.{IsRead, IsReadBehind}
-use Rattle.ax_text.proofs.Printed.{from_place}
-use Rattle.ax_text_views.proofs.StepsPrinted.{printed_tail, width_tail}
-use Rattle.ax_text_views.specs.Templates.{Template, ends, and_number, printed, template_width, with_number, steps_then, template_of, whole_template}
-use Rattle.ax_text_views.specs.declared.templates.Step.{Step}
-use Rattle.ax_text_views.specs.declared.templates.Steps.{Steps}
+use Rattle.ax_text_form.proofs.Printed.{from_place}
+use Rattle.ax_text_lines.proofs.StepsPrinted.{printed_tail, width_tail}
+use Rattle.ax_text_lines.specs.Templates.{Template, ends, and_number, printed, template_width, with_number, steps_then, template_of, whole_template}
+use Rattle.ax_text_lines.specs.declared.templates.TemplateStep.{TemplateStep}
+use Rattle.ax_text_lines.specs.declared.templates.TemplateSteps.{TemplateSteps}
 
 -- ---- octets that begin alike
 
@@ -43,7 +43,7 @@ number_printed xs w m r c lt =
     (λ i. xs ++ (decimal (number_of (front i)) ++ printed r (back i))) ∙ ap (λ n. xs ++ (decimal n ++ printed r c)) (number-word w m lt) ∙ sym (append_assoc xs (decimal m) (printed r c))
 
 -- the steps before place i are read, and their numbers stand behind the first
-pub record StepsRead (all : List Step) (i used first n : ℕ) (octets left : List ℕ) : Type 0 where
+pub record StepsRead (all : List TemplateStep) (i used first n : ℕ) (octets left : List ℕ) : Type 0 where
   pub front : List ℕ
   pub width : ℕ
   pub more : ℕ
@@ -54,7 +54,7 @@ pub record StepsRead (all : List Step) (i used first n : ℕ) (octets left : Lis
   pub split : octets ≡ front ++ left
   pub text : (c : List ℕ) → printed (template_of all) (word width more ++ c) ≡ front ++ printed (template_of (drop i all)) c
 
-pub steps_begun : (all : List Step) (used first : ℕ) (octets : List ℕ) → first < 2 ^ used → StepsRead all 0 used first first octets octets
+pub steps_begun : (all : List TemplateStep) (used first : ℕ) (octets : List ℕ) → first < 2 ^ used → StepsRead all 0 used first first octets octets
 steps_begun all used first octets lt = record {
   front = [];
   width = 0;
@@ -67,7 +67,7 @@ steps_begun all used first octets lt = record {
   text = λ c. refl;
 }
 
-module _ (all : List Step) (i : ℕ) (s : Step) (used first n : ℕ) (octets left : List ℕ) (h : StepsRead all i used first n octets left) (lt : i < length all) (e : s ≡ get_or all i s) (w : ℕ) (is : s.number ≡ Some w) where
+module _ (all : List TemplateStep) (i : ℕ) (s : TemplateStep) (used first n : ℕ) (octets left : List ℕ) (h : StepsRead all i used first n octets left) (lt : i < length all) (e : s ≡ get_or all i s) (w : ℕ) (is : s.number ≡ Some w) where
   abbrev pub lit : List ℕ
   lit = take s.literal.count s.literal.octets
 
@@ -104,7 +104,7 @@ module _ (all : List Step) (i : ℕ) (s : Step) (used first n : ℕ) (octets lef
         );
   }
 
-pub steps_over : (all : List Step) (i used first n : ℕ) (octets left : List ℕ) → StepsRead all i used first n octets left → length all ≤ i → IsReadBehind (template_of all) first n octets left
+pub steps_over : (all : List TemplateStep) (i used first n : ℕ) (octets left : List ℕ) → StepsRead all i used first n octets left → length all ≤ i → IsReadBehind (template_of all) first n octets left
 steps_over all i used first n octets left h past =
     let none : drop i all ≡ [] = drop_all i all past in
     let wide : h.width ≡ template_width (template_of all) = (let k : h.width ≡ h.width + 0 = omega arith in k) ∙ ap (λ ss. h.width + template_width (template_of ss)) (sym none) ∙ h.whole in
@@ -122,7 +122,7 @@ pub ruleset loops = (steps_begun, step_narrow, step_fits, steps_go_on, steps_ove
 
 -- ---- a whole template
 
-module _ (steps : Steps) (all later : List Step) (s : Step) (same : all ≡ steps.steps) (cons : all ≡ s ∷ later) (w : ℕ) (is : s.number ≡ Some w) where
+module _ (steps : TemplateSteps) (all later : List TemplateStep) (s : TemplateStep) (same : all ≡ steps.steps) (cons : all ≡ s ∷ later) (w : ℕ) (is : s.number ≡ Some w) where
   abbrev tail : List ℕ
   tail = take steps.tail.count steps.tail.octets
 

@@ -4,7 +4,7 @@ use Rattle.std.specs.Prelude.{decimal}
 use Rattle.std.proofs.lemmas.List.{take_all, length-take-le}
 use Rattle.ax_bits.proofs.Words.{length-word, number_below, word-AreBits, word-number}
 use Rattle.ax_bits.specs.Bits.{AreBits, number_of, word}
-use Rattle.ax_text.proofs.Onto.{fixed_more, part_more}
+use Rattle.ax_text_form.proofs.Onto.{fixed_more, part_more}
 use Rattle.ax_format.proofs.Meets.{bits_of}
 use Rattle.ax_format.specs.Canonical.{fixed_canon, members_canon}
 use Rattle.ax_format.specs.Characters.{IsName}
@@ -14,17 +14,17 @@ use Rattle.ax_format.specs.Reader.{fixed_value, members_value}
 use Rattle.ax_format.specs.Shape.{NumberShape, FixedShape, MembersShape}
 use Rattle.ax_format.specs.Tree.{FixedTree, element, group, MembersTree, no_members, member_and, named, spare, fixed, subitem, ValueTree, number, member_values, ValuesTree, no_values, value_and}
 use Rattle.ax_format.specs.Widths.{width, members_width}
-use Rattle.ax_text.proofs.Unique.{small}
-use Rattle.ax_text.proofs.WordTokens.{IsWord, decimal_word, name_word, spare_is_word, part_is_word}
-use Rattle.ax_text.specs.Names.{FixedNamed, MembersNamed}
-use Rattle.ax_text.specs.Printing.{after_spaces}
-use Rattle.ax_text.specs.Slots.{slot_onto}
-use Rattle.ax_text.specs.Tokens.{kind_of, fixed_nesting, members_nesting}
-use Rattle.ax_text.specs.ValueText.{Texts, closing, spare_word, part_word, in_braces, number_onto, fixed_onto, members_onto, part_onto}
-use Rattle.ax_text_views.proofs.TemplateTexts.{steps_are, fixed_put, named_put, part_put, steps_width, named_width, part_width}
-use Rattle.ax_text_views.specs.Nesting.{FixedWithin, MembersWithin}
-use Rattle.ax_text_views.specs.Templates.{Template, ends, fixed_template, member_template, part_template, printed, template_width, whole_template, AreSteps}
-use Rattle.ax_text_views.specs.declared.templates.Steps.{Steps}
+use Rattle.ax_text_form.proofs.Unique.{small}
+use Rattle.ax_text_form.proofs.WordTokens.{IsWord, decimal_word, name_word, spare_is_word, part_is_word}
+use Rattle.ax_text_form.specs.Names.{FixedNamed, MembersNamed}
+use Rattle.ax_text_form.specs.Printing.{after_spaces}
+use Rattle.ax_text_form.specs.Slots.{slot_onto}
+use Rattle.ax_text_form.specs.Tokens.{kind_of, fixed_nesting, members_nesting}
+use Rattle.ax_text_form.specs.ValueText.{Texts, closing, spare_word, part_word, in_braces, number_onto, fixed_onto, members_onto, part_onto}
+use Rattle.ax_text_lines.proofs.TemplateTexts.{steps_are, fixed_put, named_put, part_put, steps_width, named_width, part_width}
+use Rattle.ax_text_lines.specs.Nesting.{FixedWithin, MembersWithin}
+use Rattle.ax_text_lines.specs.Templates.{Template, ends, fixed_template, member_template, part_template, printed, template_width, whole_template, AreSteps}
+use Rattle.ax_text_lines.specs.declared.templates.TemplateSteps.{TemplateSteps}
 use Rattle.ax_tokens.specs.Depth.{level_after}
 use Rattle.ax_tokens.specs.Lexing.{IsTokenText, MayFollow}
 use Rattle.ax_tokens.specs.declared.token.TokenKind.{TokenKind}
@@ -32,7 +32,7 @@ use Rattle.ax_tokens.specs.declared.token.TokenKind.TheVariants.{Word, Str, Open
 use Rattle.ax_printed_lines.specs.Laid.{Lays}
 use Rattle.ax_printed_lines.specs.Printed.{Place, AfterGap, AreInFront, Keeps, Goes, BuildsSlot}
 use Rattle.ax_printed_lines.specs.Runs.{IsRead, RunGoes}
-use Rattle.ax_printed_lines.specs.declared.laid.Laid.{Laid}
+use Rattle.ax_printed_lines.specs.declared.laid.LaidBits.{LaidBits}
 use Rattle.ax_printed_lines.proofs.Building.{built_after}
 use Rattle.ax_printed_lines.proofs.FixedBuilt.{FixedIsBuilt}
 use Rattle.ax_printed_lines.proofs.ListsBuilt.{PartIsBuilt}
@@ -127,7 +127,7 @@ run_goes texts t n w old new r wide e k = record {
 
 -- ---- what is held of a fixed kind
 
-module _ (f : FixedTree) (o : Option Steps) (ss : Steps) (made : IfSome o (λ ss. AreSteps (fixed_template f (ends [])) ss)) (is : o ≡ Some ss) where
+module _ (f : FixedTree) (o : Option TemplateSteps) (ss : TemplateSteps) (made : IfSome o (λ ss. AreSteps (fixed_template f (ends [])) ss)) (is : o ≡ Some ss) where
   fixed_steps : whole_template ss ≡ fixed_template f (ends [])
   fixed_steps = steps_are (fixed_template f (ends [])) ss (subst (λ o. IfSome o (λ ss. AreSteps (fixed_template f (ends [])) ss)) is made)
 
@@ -143,7 +143,7 @@ module _ (f : FixedTree) (o : Option Steps) (ss : Steps) (made : IfSome o (λ ss
   pub held_fits : (w n : ℕ) (old new : Place) → w ≡ capped (width f) → w ≤ 56 → RunGoes (whole_template ss) n old new → n < 2 ^ w
   held_fits w n old new e le r = subst (λ k. n < 2 ^ k) (fixed_wide ∙ sym (held_width w e le)) r.read.below
 
-  pub held_goes : (w n : ℕ) (old new : Place) (before after : Laid) → w ≡ capped (width f) → w ≤ 56 → FixedInBounds f → (shallow : Bool) → IsTrue shallow → (IsTrue shallow → FixedWithin 8 f) → RunGoes (whole_template ss) n old new → Lays before after (word w n) → FixedIsBuilt f old new before after
+  pub held_goes : (w n : ℕ) (old new : Place) (before after : LaidBits) → w ≡ capped (width f) → w ≤ 56 → FixedInBounds f → (shallow : Bool) → IsTrue shallow → (IsTrue shallow → FixedWithin 8 f) → RunGoes (whole_template ss) n old new → Lays before after (word w n) → FixedIsBuilt f old new before after
   held_goes w n old new before after e le bounds shallow is_shallow nests r a =
       let within = nests is_shallow in
       let same = held_width w e le in
@@ -161,7 +161,7 @@ module _ (f : FixedTree) (o : Option Steps) (ss : Steps) (made : IfSome o (λ ss
 
 -- ---- what is held of a part
 
-module _ (p : MembersTree) (o : Option Steps) (ss : Steps) (made : IfSome o (λ ss. AreSteps (part_template p (ends [])) ss)) (is : o ≡ Some ss) where
+module _ (p : MembersTree) (o : Option TemplateSteps) (ss : TemplateSteps) (made : IfSome o (λ ss. AreSteps (part_template p (ends [])) ss)) (is : o ≡ Some ss) where
   part_steps : whole_template ss ≡ part_template p (ends [])
   part_steps = steps_are (part_template p (ends [])) ss (subst (λ o. IfSome o (λ ss. AreSteps (part_template p (ends [])) ss)) is made)
 
@@ -177,7 +177,7 @@ module _ (p : MembersTree) (o : Option Steps) (ss : Steps) (made : IfSome o (λ 
   pub part_fits : (w n : ℕ) (old new : Place) → w ≡ capped (members_width p) → w ≤ 56 → RunGoes (whole_template ss) n old new → n < 2 ^ w
   part_fits w n old new e le r = subst (λ k. n < 2 ^ k) (part_wide ∙ sym (part_same w e le)) r.read.below
 
-  pub part_goes : (w n : ℕ) (old new : Place) (before after : Laid) → w ≡ capped (members_width p) → w ≤ 56 → MembersInBounds p → (shallow : Bool) → IsTrue shallow → (IsTrue shallow → MembersWithin 8 p) → RunGoes (whole_template ss) n old new → Lays before after (word w n) → PartIsBuilt p old new before after
+  pub part_goes : (w n : ℕ) (old new : Place) (before after : LaidBits) → w ≡ capped (members_width p) → w ≤ 56 → MembersInBounds p → (shallow : Bool) → IsTrue shallow → (IsTrue shallow → MembersWithin 8 p) → RunGoes (whole_template ss) n old new → Lays before after (word w n) → PartIsBuilt p old new before after
   part_goes w n old new before after e le bounds shallow is_shallow nests r a =
       let within = nests is_shallow in
       let same = part_same w e le in
@@ -197,7 +197,7 @@ module _ (p : MembersTree) (o : Option Steps) (ss : Steps) (made : IfSome o (λ 
 
 -- ---- what is held of an item or a subitem of a fixed kind
 
-module _ (name : List ℕ) (f : FixedTree) (o : Option Steps) (ss : Steps) (made : IfSome o (λ ss. AreSteps (member_template (named name f) (ends [])) ss)) (is : o ≡ Some ss) where
+module _ (name : List ℕ) (f : FixedTree) (o : Option TemplateSteps) (ss : TemplateSteps) (made : IfSome o (λ ss. AreSteps (member_template (named name f) (ends [])) ss)) (is : o ≡ Some ss) where
   named_steps : whole_template ss ≡ member_template (named name f) (ends [])
   named_steps = steps_are (member_template (named name f) (ends [])) ss (subst (λ o. IfSome o (λ ss. AreSteps (member_template (named name f) (ends [])) ss)) is made)
 
@@ -213,7 +213,7 @@ module _ (name : List ℕ) (f : FixedTree) (o : Option Steps) (ss : Steps) (made
   pub named_fits : (w n : ℕ) (old new : Place) → w ≡ capped (width f) → w ≤ 56 → RunGoes (whole_template ss) n old new → n < 2 ^ w
   named_fits w n old new e le r = subst (λ k. n < 2 ^ k) (named_wide ∙ sym (named_same w e le)) r.read.below
 
-  pub named_goes : (w n : ℕ) (old new : Place) (before after : Laid) → w ≡ capped (width f) → w ≤ 56 → FixedInBounds f → (shallow : Bool) → IsTrue shallow → (IsTrue shallow → IsName name × FixedWithin 8 f) → RunGoes (whole_template ss) n old new → Lays before after (word w n)
+  pub named_goes : (w n : ℕ) (old new : Place) (before after : LaidBits) → w ≡ capped (width f) → w ≤ 56 → FixedInBounds f → (shallow : Bool) → IsTrue shallow → (IsTrue shallow → IsName name × FixedWithin 8 f) → RunGoes (whole_template ss) n old new → Lays before after (word w n)
       → BuildsSlot (subitem name (fixed f)) true old new before after
   named_goes w n old new before after e le bounds shallow is_shallow nests r a =
       let nm = (nests is_shallow).0 in
@@ -233,7 +233,7 @@ module _ (name : List ℕ) (f : FixedTree) (o : Option Steps) (ss : Steps) (made
       }
 
 -- a name and a value after it
-pub name_then : (name : List ℕ) (f : FixedTree) (old mid new : Place) (before after : Laid) → Goes old mid (name ∷ []) → FixedIsBuilt f mid new before after → BuildsSlot (subitem name (fixed f)) true old new before after
+pub name_then : (name : List ℕ) (f : FixedTree) (old mid new : Place) (before after : LaidBits) → Goes old mid (name ∷ []) → FixedIsBuilt f mid new before after → BuildsSlot (subitem name (fixed f)) true old new before after
 name_then name f old mid new before after g b =
     built_after (FixedShape f) (λ v. fixed_onto f v []) (fixed_canon f) (FixedShape f) (λ v. slot_onto (subitem name (fixed f)) v []) (fixed_canon f) (name ∷ []) old mid new before after g b (λ v h. (v, h, refl, refl))
 

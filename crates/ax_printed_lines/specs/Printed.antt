@@ -3,11 +3,11 @@ use Rattle.std.specs.Prelude.{◌≡◌, ℕ, ◌≤◌, ◌<◌, Bool, true, fa
 use Rattle.std.specs.List.{AllByRecursion, list_all}
 use Rattle.hex.specs.Hex.{encode_lower, lower_digits}
 use Rattle.ax_bits.specs.Bits.{bits, AreOctets}
-use Rattle.ax_text.specs.CatalogueBlocks.{IsBlockOf}
+use Rattle.ax_text_form.specs.CatalogueBlocks.{IsBlockOf}
 use Rattle.ax_format.specs.Blocks.{BlockTree}
 use Rattle.ax_fspec.specs.Fields.{least_field}
 use Rattle.ax_format.specs.Bodies.{RecordShape, CanonBody}
-use Rattle.ax_text.specs.BlockText.{records_onto, BlockText}
+use Rattle.ax_text_form.specs.BlockText.{records_onto, BlockText}
 use Rattle.ax_format.specs.Canonical.{canon, fixed_canon, number_canon, marks_of}
 use Rattle.ax_format.specs.CanonicalOctets.{canon_block, category_of, framed}
 use Rattle.ax_format.specs.InBounds.{SlotsInBounds}
@@ -15,9 +15,9 @@ use Rattle.ax_format.specs.Presence.{octets_needed, least_presence}
 use Rattle.ax_format.specs.Shape.{EntriesShape}
 use Rattle.ax_format.specs.Specification.{SpecTree, spec_of}
 use Rattle.ax_format.specs.Tree.{MemberTree, named, spare, SlotTree, spare_slot, subitem, SlotsTree, slot_count, ValueTree, EntriesTree}
-use Rattle.ax_text.specs.Slots.{SlotShape, slot_onto}
-use Rattle.ax_text.specs.Tokens.{kind_of}
-use Rattle.ax_text.specs.ValueText.{Texts}
+use Rattle.ax_text_form.specs.Slots.{SlotShape, slot_onto}
+use Rattle.ax_text_form.specs.Tokens.{kind_of}
+use Rattle.ax_text_form.specs.ValueText.{Texts}
 use Rattle.ax_tokens.specs.Depth.{level_after}
 use Rattle.ax_tokens.specs.Lexing.{IsTokenText, MayFollow, AreTokensOf}
 use Rattle.ax_tokens.specs.Octets.{is_separator}
@@ -25,7 +25,7 @@ use Rattle.ax_tokens.specs.PlainToken.{PlainToken}
 use Rattle.ax_tokens.specs.declared.token.TokenKind.{TokenKind}
 use Rattle.ax_tokens.specs.declared.token.TokenKind.TheVariants.{Word}
 use Rattle.ax_printed_lines.specs.Laid.{Lays}
-use Rattle.ax_printed_lines.specs.declared.laid.Laid.{Laid}
+use Rattle.ax_printed_lines.specs.declared.laid.LaidBits.{LaidBits}
 
 -- ---- places
 
@@ -73,7 +73,7 @@ pub record Goes (old new : Place) (texts : Texts) : Type 0 where
 -- ---- what is built
 
 -- the texts of something of that shape were read, and its canonical bits were laid
-pub record IsBuilt {X : Type 0} (R : X → Type 0) (onto : X → Texts) (spell : X → List ℕ) (old new : Place) (before after : Laid) : Type 0 where
+pub record IsBuilt {X : Type 0} (R : X → Type 0) (onto : X → Texts) (spell : X → List ℕ) (old new : Place) (before after : LaidBits) : Type 0 where
   pub value : X
   pub shape : R value
   pub goes : Goes old new (onto value)
@@ -89,7 +89,7 @@ slot_canon (subitem name k) v = canon k v
 
 -- the line is the text of a block of that category under the catalogue, and the bits of the body of its canonical form were
 -- laid
-pub record IsPrinted (catalogue : List SpecTree) (line : List ℕ) (category : ℕ) (before after : Laid) : Type 0 where
+pub record IsPrinted (catalogue : List SpecTree) (line : List ℕ) (category : ℕ) (before after : LaidBits) : Type 0 where
   pub spec : SpecTree
   pub block : BlockTree
   pub known : spec_of (category_of block) catalogue ≡ Some spec
@@ -108,7 +108,7 @@ abbrev pub AreSlots : SlotsTree → Type 0
 AreSlots ss = (0 < slot_count ss) × (slot_count ss ≤ 126) × SlotsInBounds ss
 
 -- the slot's value is built where its name comes, and nothing is done where it doesn't
-abbrev pub BuildsSlot : SlotTree → Bool → Place → Place → Laid → Laid → Type 0
+abbrev pub BuildsSlot : SlotTree → Bool → Place → Place → LaidBits → LaidBits → Type 0
 BuildsSlot slot true old new before after = IsBuilt (SlotShape slot) (λ v. slot_onto slot v []) (slot_canon slot) old new before after
 BuildsSlot slot false old new before after = (new ≡ old) × (after ≡ before)
 
@@ -122,7 +122,7 @@ abbrev pub digit_text : ℕ → ℕ
 digit_text n = slice_index lower_digits n
 
 -- the digits of some octets, which were laid
-pub record AreDigits (digits : List ℕ) (before after : Laid) : Type 0 where
+pub record AreDigits (digits : List ℕ) (before after : LaidBits) : Type 0 where
   pub octets : List ℕ
   pub each : AreOctets octets
   pub text : digits ≡ encode_lower octets
@@ -131,5 +131,5 @@ pub record AreDigits (digits : List ℕ) (before after : Laid) : Type 0 where
 -- ---- records
 
 -- one or more records were read, and their canonical bits were laid
-abbrev pub AreRecords : SpecTree → Place → Place → Laid → Laid → Type 0
+abbrev pub AreRecords : SpecTree → Place → Place → LaidBits → LaidBits → Type 0
 AreRecords spec old new before after = IsBuilt (λ rs. (0 < length rs) × AllByRecursion (RecordShape spec) rs) (λ rs. records_onto spec rs []) (CanonBody spec) old new before after

@@ -2,7 +2,7 @@
 use Rattle.std.specs.Prelude.{◌≡◌, ℕ, ◌+◌, ◌*◌, ◌^◌, ◌<◌, ◌≤◌, List, ◌∷◌, ◌++◌}
 use Rattle.ax_bits.specs.Bits.{word}
 use Rattle.ax_printed_lines.specs.Printed.{Place}
-use Rattle.ax_text_views.specs.Templates.{Template, printed, template_width}
+use Rattle.ax_text_lines.specs.Templates.{Template, printed, template_width}
 
 -- what a template prints of a number's bits stands in front, and then what is left
 pub record IsRead (t : Template) (n : ℕ) (octets left : List ℕ) : Type 0 where

@@ -1,20 +1,20 @@
 //! The place in a line.
 ghost use Rattle.std.specs.Prelude.{◌≡◌, ◌+◌, ◌<◌, ◌≤◌, [], ◌∷◌, ◌++◌, ℕ, List, false, length, decimal, IsTrue, IfSome, IfNone};
 ghost use Rattle.ax_format.specs.Paths.{three_digits};
-ghost use Rattle.ax_text.specs.ValueText.{opening, closing, hex_text};
+ghost use Rattle.ax_text_form.specs.ValueText.{opening, closing, hex_text};
 ghost use Rattle.ax_bits.specs.Bits.{AreOctets};
 ghost use Rattle.hex.specs.Hex.{encode_lower};
 ghost use Rattle.ax_printed_lines.specs.Printed.{Place, AfterGap, IsAfterOctet, IsOneWord, Goes};
 ghost use Rattle.ax_printed_lines.specs.Runs.{RunGoes};
-ghost use Rattle.ax_text_views.specs.Templates.{template_width, whole_template};
+ghost use Rattle.ax_text_lines.specs.Templates.{template_width, whole_template};
 
 use crate::gaps::{after_gap, after_separators, after_spaced, after_word, split_word};
 use crate::names::{FrontWord, after_short_name, after_spaced_name, are_same, begins_with};
 use crate::numbers::{number_in_front, spaced_number};
 use crate::runs::after_template;
 use ax_format::Name;
-use ax_text::{category_of, unquoted};
-use ax_text_views::Steps;
+use ax_text_form::{category_of, unquoted};
+use ax_text_lines::TemplateSteps;
 use std::marker::Model;
 
 /// How deep the braces of a line may nest.
@@ -228,7 +228,7 @@ impl<'t> Cursor<'t> {
     /// if so. None comes too where its braces might open deeper than a line allows.
     #[inline(always)]
     #[tactic(auto, using(crate::proofs::TemplatesBuilt::template_read))]
-    pub fn template(&mut self, steps: &Steps) -> Option<u64>
+    pub fn template(&mut self, steps: &TemplateSteps) -> Option<u64>
         requires { template_width (whole_template steps.now) ≤ 56 }
         ensures some { IfSome result (λ n. RunGoes (whole_template steps.now) n self.old self.new) }
         ensures none { IfNone result (self.new ≡ self.old) }

@@ -5,11 +5,11 @@ ghost use Rattle.ax_bits.specs.Bits.{bits, AreOctets};
 ghost use Rattle.ax_format.specs.Canonical.{canon};
 ghost use Rattle.ax_format.specs.Shape.{Shape};
 ghost use Rattle.ax_format.specs.Tree.{explicit};
-ghost use Rattle.ax_text.specs.ValueText.{kind_onto};
+ghost use Rattle.ax_text_form.specs.ValueText.{kind_onto};
 ghost use Rattle.ax_printed_lines.specs.Printed.{IsBuilt, AreDigits, digit_text};
 
 use crate::cursor::Cursor;
-use crate::laid::Laid;
+use crate::laid::LaidBits;
 
 /// The number of a lower-case hexadecimal digit.
 fn digit_of(octet: u8) -> Option<u8>
@@ -34,7 +34,7 @@ fn octet_of(high: u8, low: u8) -> Option<u8>
 }
 
 /// The octets whose digits these are are laid. None comes where they are the digits of none, or there is no room.
-fn octets_built(digits: &[u8], out: &mut Laid<'_>) -> Option<()>
+fn octets_built(digits: &[u8], out: &mut LaidBits<'_>) -> Option<()>
     ensures { IfSome result (λ done. AreDigits digits.now out.old out.new) }
 {
     let mut left = digits;
@@ -48,7 +48,7 @@ fn octets_built(digits: &[u8], out: &mut Laid<'_>) -> Option<()>
 }
 
 /// The content of an explicit item that comes is read, and its length octet and its octets are laid.
-pub fn explicit_built(cursor: &mut Cursor<'_>, out: &mut Laid<'_>) -> Option<()>
+pub fn explicit_built(cursor: &mut Cursor<'_>, out: &mut LaidBits<'_>) -> Option<()>
     ensures { IfSome result (λ done. IsBuilt (Shape explicit) (λ v. kind_onto explicit v []) (canon explicit) cursor.old cursor.new out.old out.new) }
 {
     let digits = cursor.quoted()?;

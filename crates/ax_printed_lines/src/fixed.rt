@@ -6,16 +6,16 @@ ghost use Rattle.ax_format.specs.InBounds.{FixedInBounds, MembersInBounds, Parts
 ghost use Rattle.ax_format.specs.Plain.{fixed_tree, member_tree, members_tree, part_tree};
 ghost use Rattle.ax_format.specs.Shape.{FixedShape, MembersShape, PartsShape, EachShape};
 ghost use Rattle.ax_format.specs.Tree.{fixed, member_and, no_members, subitem, value_count};
-ghost use Rattle.ax_text.specs.Slots.{MemberShape};
-ghost use Rattle.ax_text.specs.ValueText.{closing, fixed_onto, member_onto, members_onto, part_onto, parts_onto, each_onto};
+ghost use Rattle.ax_text_form.specs.Slots.{MemberShape};
+ghost use Rattle.ax_text_form.specs.ValueText.{closing, fixed_onto, member_onto, members_onto, part_onto, parts_onto, each_onto};
 ghost use Rattle.ax_printed_lines.specs.Printed.{IsBuilt, BuildsSlot, member_canon};
-ghost use Rattle.ax_text_views.specs.HeldText.{text_part};
+ghost use Rattle.ax_text_lines.specs.HeldText.{text_part};
 
 use crate::cursor::Cursor;
-use crate::laid::Laid;
+use crate::laid::LaidBits;
 use crate::pieces::{fx_built, last_fx_built, number_built, number_laid};
 use ax_format::{Fixed, LastPart, Member, Members, Part};
-use ax_text_views::{TextFixed, TextNamed, TextPart, TextParts};
+use ax_text_lines::{TextFixed, TextNamed, TextPart, TextParts};
 
 /// The most bits of a value that is read by its template.
 const MOST_BITS: u64 = 56;
@@ -23,7 +23,7 @@ const MOST_BITS: u64 = 56;
 /// The value of a fixed kind that comes is read, and its bits are laid.
 #[cycle(fixed_built)]
 #[inline(always)]
-pub fn fixed_built(cursor: &mut Cursor<'_>, fixed: &Fixed, out: &mut Laid<'_>) -> Option<()>
+pub fn fixed_built(cursor: &mut Cursor<'_>, fixed: &Fixed, out: &mut LaidBits<'_>) -> Option<()>
     requires { FixedInBounds (fixed_tree fixed.now) }
     ensures { IfSome result (λ done. IsBuilt (FixedShape (fixed_tree fixed.now)) (λ v. fixed_onto (fixed_tree fixed.now) v []) (fixed_canon (fixed_tree fixed.now)) cursor.old cursor.new out.old out.new) }
 {
@@ -41,7 +41,7 @@ pub fn fixed_built(cursor: &mut Cursor<'_>, fixed: &Fixed, out: &mut Laid<'_>) -
 /// A member: its name and its value, or `spare` and its number.
 #[cycle(fixed_built)]
 #[inline(always)]
-fn member_built(cursor: &mut Cursor<'_>, member: &Member, out: &mut Laid<'_>) -> Option<()>
+fn member_built(cursor: &mut Cursor<'_>, member: &Member, out: &mut LaidBits<'_>) -> Option<()>
     requires { MembersInBounds (member_and (member_tree member.now) no_members) }
     ensures { IfSome result (λ done. IsBuilt (MemberShape (member_tree member.now)) (λ v. member_onto (member_tree member.now) v []) (member_canon (member_tree member.now)) cursor.old cursor.new out.old out.new) }
 {
@@ -68,7 +68,11 @@ fn member_built(cursor: &mut Cursor<'_>, member: &Member, out: &mut Laid<'_>) ->
 
 /// A value for each member, in order, and the brace after them.
 #[cycle(fixed_built)]
-pub fn members_built(cursor: &mut Cursor<'_>, members: &Members, out: &mut Laid<'_>) -> Option<()>
+pub fn members_built(
+    cursor: &mut Cursor<'_>,
+    members: &Members,
+    out: &mut LaidBits<'_>,
+) -> Option<()>
     requires { MembersInBounds (members_tree members.now) }
     ensures { IfSome result (λ done. IsBuilt (MembersShape (members_tree members.now)) (λ vs. members_onto (members_tree members.now) vs (closing ∷ [])) (members_canon (members_tree members.now)) cursor.old cursor.new out.old out.new) }
 {
@@ -82,7 +86,11 @@ pub fn members_built(cursor: &mut Cursor<'_>, members: &Members, out: &mut Laid<
 }
 
 /// A value of a fixed kind that comes is read, by its template where that reads it, and its bits are laid.
-pub fn held_built(cursor: &mut Cursor<'_>, held: &TextFixed<'_>, out: &mut Laid<'_>) -> Option<()>
+pub fn held_built(
+    cursor: &mut Cursor<'_>,
+    held: &TextFixed<'_>,
+    out: &mut LaidBits<'_>,
+) -> Option<()>
     requires { FixedInBounds (fixed_tree held.now.fixed.now) }
     ensures { IfSome result (λ done. IsBuilt (FixedShape (fixed_tree held.now.fixed.now)) (λ v. fixed_onto (fixed_tree held.now.fixed.now) v []) (fixed_canon (fixed_tree held.now.fixed.now)) cursor.old cursor.new out.old out.new) }
 {
@@ -101,7 +109,7 @@ pub fn held_built(cursor: &mut Cursor<'_>, held: &TextFixed<'_>, out: &mut Laid<
 pub fn named_built(
     cursor: &mut Cursor<'_>,
     held: &TextNamed<'_>,
-    out: &mut Laid<'_>,
+    out: &mut LaidBits<'_>,
 ) -> Option<bool>
     requires { FixedInBounds (fixed_tree held.now.fixed.now) }
     ensures { IfSome result (λ came. BuildsSlot (subitem held.now.name (fixed (fixed_tree held.now.fixed.now))) came cursor.old cursor.new out.old out.new) }
@@ -122,7 +130,7 @@ pub fn named_built(
 fn named_member_built(
     cursor: &mut Cursor<'_>,
     held: &TextNamed<'_>,
-    out: &mut Laid<'_>,
+    out: &mut LaidBits<'_>,
 ) -> Option<bool>
     requires { FixedInBounds (fixed_tree held.now.fixed.now) }
     ensures { IfSome result (λ came. BuildsSlot (subitem held.now.name (fixed (fixed_tree held.now.fixed.now))) came cursor.old cursor.new out.old out.new) }
@@ -136,7 +144,7 @@ fn named_member_built(
 
 /// A part, by its template where that reads it.
 #[inline(always)]
-fn part_built(cursor: &mut Cursor<'_>, held: &TextPart<'_>, out: &mut Laid<'_>) -> Option<()>
+fn part_built(cursor: &mut Cursor<'_>, held: &TextPart<'_>, out: &mut LaidBits<'_>) -> Option<()>
     requires { MembersInBounds (text_part held.now) }
     ensures { IfSome result (λ done. IsBuilt (MembersShape (text_part held.now)) (λ vs. part_onto (text_part held.now) vs []) (members_canon (text_part held.now)) cursor.old cursor.new out.old out.new) }
 {
@@ -151,7 +159,7 @@ fn part_built(cursor: &mut Cursor<'_>, held: &TextPart<'_>, out: &mut Laid<'_>) 
 }
 
 /// The same: `part` and its members in braces.
-fn braced_part_built(cursor: &mut Cursor<'_>, part: &Part, out: &mut Laid<'_>) -> Option<()>
+fn braced_part_built(cursor: &mut Cursor<'_>, part: &Part, out: &mut LaidBits<'_>) -> Option<()>
     requires { MembersInBounds (part_tree part.now) }
     ensures { IfSome result (λ done. IsBuilt (MembersShape (part_tree part.now)) (λ vs. part_onto (part_tree part.now) vs []) (members_canon (part_tree part.now)) cursor.old cursor.new out.old out.new) }
 {
@@ -166,7 +174,7 @@ pub fn parts_built(
     cursor: &mut Cursor<'_>,
     last: LastPart,
     parts: &TextParts<'_>,
-    out: &mut Laid<'_>,
+    out: &mut LaidBits<'_>,
 ) -> Option<()>
     requires { PartsInBounds last (map text_part parts.now) }
     ensures { IfSome result (λ done. IsBuilt (PartsShape (map text_part parts.now)) (λ ls. parts_onto (map text_part parts.now) ls (closing ∷ [])) (parts_canon last (map text_part parts.now)) cursor.old cursor.new out.old out.new) }
@@ -188,7 +196,11 @@ pub fn parts_built(
 const MOST: u32 = 65_536;
 
 /// One or more values of a fixed kind, and the brace after them.
-pub fn run_built(cursor: &mut Cursor<'_>, held: &TextFixed<'_>, out: &mut Laid<'_>) -> Option<()>
+pub fn run_built(
+    cursor: &mut Cursor<'_>,
+    held: &TextFixed<'_>,
+    out: &mut LaidBits<'_>,
+) -> Option<()>
     requires { FixedInBounds (fixed_tree held.now.fixed.now) }
     ensures { IfSome result (λ done. IsBuilt (λ vs. (0 < value_count vs) × EachShape (FixedShape (fixed_tree held.now.fixed.now)) vs) (λ vs. each_onto (fixed_onto (fixed_tree held.now.fixed.now)) vs (closing ∷ [])) (run_canon (fixed_tree held.now.fixed.now)) cursor.old cursor.new out.old out.new) }
 {

@@ -7,24 +7,28 @@ ghost use Rattle.ax_format.specs.Presence.{octets_needed, least_presence};
 ghost use Rattle.ax_format.specs.Shape.{Shape, EachShape, EntriesShape};
 ghost use Rattle.ax_format.specs.Tree.{compound, counted, slot_and, no_slots, slot_count, value_count, occurrences, marked};
 ghost use Rattle.ax_format.specs.Widths.{counter_width};
-ghost use Rattle.ax_text.specs.Slots.{SlotShape, slot_onto};
-ghost use Rattle.ax_text.specs.ValueText.{closing, kind_onto, each_onto, in_braces, entries_onto};
-ghost use Rattle.ax_text_views.specs.HeldText.{text_kind, text_slot, text_slots};
+ghost use Rattle.ax_text_form.specs.Slots.{SlotShape, slot_onto};
+ghost use Rattle.ax_text_form.specs.ValueText.{closing, kind_onto, each_onto, in_braces, entries_onto};
+ghost use Rattle.ax_text_lines.specs.HeldText.{text_kind, text_slot, text_slots};
 ghost use Rattle.ax_printed_lines.specs.Printed.{IsBuilt, AreSlots, BuildsSlot, HasMarks, slot_canon};
 
 use crate::cursor::Cursor;
 use crate::explicit::explicit_built;
 use crate::fixed::{held_built, named_built, parts_built, run_built};
-use crate::laid::Laid;
+use crate::laid::LaidBits;
 use crate::names::FrontWord;
 use crate::pieces::{count_filled, field_filled, field_room};
 use ax_format::{Counter, Name};
 use ax_fspec::Presence;
-use ax_text_views::{TextKind, TextSlot, TextSlots};
+use ax_text_lines::{TextKind, TextSlot, TextSlots};
 
 /// The value of a kind that comes is read, and its canonical bits are laid.
 #[cycle(kind_built)]
-pub fn kind_built(cursor: &mut Cursor<'_>, kind: &TextKind<'_>, out: &mut Laid<'_>) -> Option<()>
+pub fn kind_built(
+    cursor: &mut Cursor<'_>,
+    kind: &TextKind<'_>,
+    out: &mut LaidBits<'_>,
+) -> Option<()>
     requires { InBounds (text_kind kind.now) }
     ensures { IfSome result (λ done. IsBuilt (Shape (text_kind kind.now)) (λ v. kind_onto (text_kind kind.now) v []) (canon (text_kind kind.now)) cursor.old cursor.new out.old out.new) }
 {
@@ -68,7 +72,7 @@ fn counted_built(
     cursor: &mut Cursor<'_>,
     size: Counter,
     kind: &TextKind<'_>,
-    out: &mut Laid<'_>,
+    out: &mut LaidBits<'_>,
 ) -> Option<()>
     requires { InBounds (text_kind kind.now) }
     ensures { IfSome result (λ done. IsBuilt (λ vs. (value_count vs < 2 ^ counter_width size) × EachShape (Shape (text_kind kind.now)) vs) (λ vs. each_onto (kind_onto (text_kind kind.now)) vs (closing ∷ [])) (λ vs. canon (counted size (text_kind kind.now)) (occurrences vs)) cursor.old cursor.new out.old out.new) }
@@ -84,7 +88,7 @@ fn each_built(
     cursor: &mut Cursor<'_>,
     size: Counter,
     kind: &TextKind<'_>,
-    out: &mut Laid<'_>,
+    out: &mut LaidBits<'_>,
 ) -> Option<u32>
     requires { InBounds (text_kind kind.now) }
     ensures few { IfSome result (λ count. count < 2 ^ counter_width size) }
@@ -108,7 +112,11 @@ fn each_built(
 /// The entries of a compound, and the brace after them. They are laid behind room for the presence field, which is written once
 /// they are there.
 #[cycle(kind_built)]
-fn compound_built(cursor: &mut Cursor<'_>, slots: &TextSlots<'_>, out: &mut Laid<'_>) -> Option<()>
+fn compound_built(
+    cursor: &mut Cursor<'_>,
+    slots: &TextSlots<'_>,
+    out: &mut LaidBits<'_>,
+) -> Option<()>
     requires { AreSlots (text_slots slots.now) }
     ensures { IfSome result (λ done. IsBuilt (EntriesShape 1 (text_slots slots.now)) (λ es. entries_onto 1 (text_slots slots.now) es (closing ∷ [])) (λ es. canon (compound (text_slots slots.now)) (marked es)) cursor.old cursor.new out.old out.new) }
 {
@@ -121,7 +129,11 @@ fn compound_built(cursor: &mut Cursor<'_>, slots: &TextSlots<'_>, out: &mut Laid
 /// The value of the slot's subitem, where the subitem's name comes. It answers whether it does.
 #[cycle(kind_built)]
 #[inline(always)]
-fn subitem_built(cursor: &mut Cursor<'_>, slot: &TextSlot<'_>, out: &mut Laid<'_>) -> Option<bool>
+fn subitem_built(
+    cursor: &mut Cursor<'_>,
+    slot: &TextSlot<'_>,
+    out: &mut LaidBits<'_>,
+) -> Option<bool>
     requires { SlotsInBounds (slot_and (text_slot slot.now) no_slots) }
     ensures { IfSome result (λ came. BuildsSlot (text_slot slot.now) came cursor.old cursor.new out.old out.new) }
 {
@@ -170,7 +182,7 @@ fn slot_of(slots: &[TextSlot<'_>], from: usize, word: FrontWord) -> Option<usize
 pub fn entries_built(
     cursor: &mut Cursor<'_>,
     slots: &TextSlots<'_>,
-    out: &mut Laid<'_>,
+    out: &mut LaidBits<'_>,
 ) -> Option<Presence>
     requires { AreSlots (text_slots slots.now) }
     ensures { IfSome result (λ marks. IsBuilt (HasMarks (text_slots slots.now) marks) (λ es. entries_onto 1 (text_slots slots.now) es (closing ∷ [])) (entries_canon 1 (text_slots slots.now)) cursor.old cursor.new out.old out.new) }

@@ -11,7 +11,7 @@ pub const AT_ONCE: u32 = 56;
 /// Bits that are laid, from the front of a lent buffer on. The last of them, up to 63, are held as a number, so that eight octets at a
 /// time are written.
 #[derive(Drop)]
-pub struct Laid<'b> {
+pub struct LaidBits<'b> {
     buffer: &'b mut [u8],
     // How many octets are written.
     count: usize,
@@ -96,14 +96,14 @@ fn replaced(buffer: &mut [u8], from: usize, octets: &[u8])
     buffer[from..from + octets.len()].copy_from_slice(octets);
 }
 
-impl<'b> Laid<'b> {
+impl<'b> LaidBits<'b> {
     ghost use Rattle.ax_printed_lines.specs.Laid.{laid, Lays, Leaves, Fills};
 
     /// No bits, over a buffer.
-    pub fn over(buffer: &'b mut [u8]) -> Laid<'b>
+    pub fn over(buffer: &'b mut [u8]) -> LaidBits<'b>
         ensures { laid result ≡ [] }
     {
-        Laid {
+        LaidBits {
             buffer,
             count: 0,
             held: 0,

@@ -17,5 +17,5 @@ mod records;
 mod runs;
 
 pub use blocks::printed_body;
-pub use laid::Laid;
+pub use laid::LaidBits;
 pub use pieces::whole_octets;

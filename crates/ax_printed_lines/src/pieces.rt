@@ -9,12 +9,12 @@ ghost use Rattle.ax_format.specs.Shape.{NumberShape};
 ghost use Rattle.ax_format.specs.Sizes.{longest_body};
 ghost use Rattle.ax_format.specs.Widths.{counter_width, counter_octets, fx_width};
 ghost use Rattle.ax_fspec.specs.Reading.{fx_bit};
-ghost use Rattle.ax_text.specs.ValueText.{number_onto};
+ghost use Rattle.ax_text_form.specs.ValueText.{number_onto};
 ghost use Rattle.ax_printed_lines.specs.Laid.{laid, Lays, Fills};
 ghost use Rattle.ax_printed_lines.specs.Printed.{IsBuilt};
 
 use crate::cursor::Cursor;
-use crate::laid::{AT_ONCE, Laid};
+use crate::laid::{AT_ONCE, LaidBits};
 use ax_bits::Out;
 use ax_format::{Counter, LastPart};
 use ax_fspec::{Presence, write_presence};
@@ -32,7 +32,7 @@ fn is_below(number: u64, width: u32) -> bool
 
 /// A number of that many bits is read, and they are laid.
 #[inline(always)]
-pub fn number_built(cursor: &mut Cursor<'_>, width: u32, out: &mut Laid<'_>) -> Option<()>
+pub fn number_built(cursor: &mut Cursor<'_>, width: u32, out: &mut LaidBits<'_>) -> Option<()>
     requires { IsWidth width }
     ensures { IfSome result (λ done. IsBuilt (NumberShape width) (λ v. number_onto v []) (number_canon width) cursor.old cursor.new out.old out.new) }
 {
@@ -42,7 +42,7 @@ pub fn number_built(cursor: &mut Cursor<'_>, width: u32, out: &mut Laid<'_>) -> 
 
 /// Lays a number of that many bits. None comes where it has more.
 #[inline(always)]
-pub fn number_laid(number: u64, width: u32, out: &mut Laid<'_>) -> Option<()>
+pub fn number_laid(number: u64, width: u32, out: &mut LaidBits<'_>) -> Option<()>
     requires { IsWidth width }
     ensures { IfSome result (λ done. (number < 2 ^ width) × Lays out.old out.new (word width number)) }
 {
@@ -57,7 +57,7 @@ pub fn number_laid(number: u64, width: u32, out: &mut Laid<'_>) -> Option<()>
 
 /// The same of more bits than are laid at once.
 #[cold]
-fn wide_laid(number: u64, width: u32, out: &mut Laid<'_>) -> Option<()>
+fn wide_laid(number: u64, width: u32, out: &mut LaidBits<'_>) -> Option<()>
     requires { (56 < width) × (width ≤ 128) }
     ensures { IfSome result (λ done. (number < 2 ^ width) × Lays out.old out.new (word width number)) }
 {
@@ -68,7 +68,7 @@ fn wide_laid(number: u64, width: u32, out: &mut Laid<'_>) -> Option<()>
 }
 
 /// An FX bit, which is set where more follows. None comes where there is no room.
-pub fn fx_built(more: bool, out: &mut Laid<'_>) -> Option<()>
+pub fn fx_built(more: bool, out: &mut LaidBits<'_>) -> Option<()>
     ensures { IfSome result (λ done. Lays out.old out.new (fx_bit more ∷ [])) }
 {
     out.push(if more { 1 } else { 0 }, 1)
@@ -76,7 +76,7 @@ pub fn fx_built(more: bool, out: &mut Laid<'_>) -> Option<()>
 
 /// The FX bit of the last part that is present, after which the kind has so many others. It is not set. Nothing is laid where the
 /// part has none.
-pub fn last_fx_built(last: LastPart, others: usize, out: &mut Laid<'_>) -> Option<()>
+pub fn last_fx_built(last: LastPart, others: usize, out: &mut LaidBits<'_>) -> Option<()>
     ensures { IfSome result (λ done. Lays out.old out.new (word (fx_width last others) 0)) }
 {
     if last.fx_width(others) == 0 {
@@ -98,7 +98,7 @@ fn body_of(octets: &[u8]) -> Option<&[u8]>
 }
 
 /// The octets that were laid. None comes where bits are left over, or where they are more than a body may have.
-pub fn whole_octets<'b>(inner: &'b Laid<'_>) -> Option<&'b [u8]>
+pub fn whole_octets<'b>(inner: &'b LaidBits<'_>) -> Option<&'b [u8]>
     ensures bits { IfSome result (λ octets. bits octets.now ≡ laid inner.now) }
     ensures few { IfSome result (λ octets. length octets.now ≤ longest_body) }
     ensures octets { IfSome result (λ octets. AreOctets octets.now) }
@@ -109,12 +109,12 @@ pub fn whole_octets<'b>(inner: &'b Laid<'_>) -> Option<&'b [u8]>
 }
 
 /// Writes a count, in the octets of its counter, into the room that was left for them at octet `at`.
-pub fn count_filled(size: Counter, count: u32, at: usize, out: &mut Laid<'_>) -> Option<()>
+pub fn count_filled(size: Counter, count: u32, at: usize, out: &mut LaidBits<'_>) -> Option<()>
     requires { count < 2 ^ counter_width size }
     ensures { IfSome result (λ done. Fills out.old out.new at (counter_octets size) (word (counter_width size) count)) }
 {
     let mut room = [0u8; EIGHT];
-    let mut counter = Laid::over(&mut room);
+    let mut counter = LaidBits::over(&mut room);
     counter.push(u64::from(count), 8 * size.octets())?;
     counter.settle()?;
     out.fill(at, size.octets() as usize, counter.octets()?)
@@ -144,7 +144,7 @@ pub fn field_room(slots: usize) -> usize {
 }
 
 /// Writes the least presence field of a set into the room that was left for it at octet `at`.
-pub fn field_filled(marks: &Presence, at: usize, room: usize, out: &mut Laid<'_>) -> Option<()>
+pub fn field_filled(marks: &Presence, at: usize, room: usize, out: &mut LaidBits<'_>) -> Option<()>
     ensures { IfSome result (λ done. Fills out.old out.new at room (least_field marks.now)) }
 {
     let mut own = [0u8; LONGEST_FIELD];

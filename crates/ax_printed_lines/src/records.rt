@@ -3,20 +3,24 @@ ghost use Rattle.std.specs.Prelude.{◌≡◌, ◌≤◌, [], IfSome};
 ghost use Rattle.ax_format.specs.Bodies.{RecordShape, CanonRecord};
 ghost use Rattle.ax_format.specs.Plain.{spec_tree};
 ghost use Rattle.ax_format.specs.Specification.{record_slots};
-ghost use Rattle.ax_text.specs.BlockText.{record_onto};
+ghost use Rattle.ax_text_form.specs.BlockText.{record_onto};
 ghost use Rattle.ax_printed_lines.specs.Printed.{IsBuilt, IsAfterOctet, AreSlots, AreRecords};
 
 use crate::cursor::Cursor;
 use crate::kinds::entries_built;
-use crate::laid::Laid;
+use crate::laid::LaidBits;
 use crate::pieces::{field_filled, field_room};
-use ax_text_views::TextItems;
+use ax_text_lines::TextItems;
 
 // A body has room for fewer records.
 const MOST: u32 = 65_536;
 
 /// The entries of a record in braces. They are laid behind room for the FSPEC, which is written once they are there.
-fn record_built(cursor: &mut Cursor<'_>, items: &TextItems<'_>, out: &mut Laid<'_>) -> Option<()>
+fn record_built(
+    cursor: &mut Cursor<'_>,
+    items: &TextItems<'_>,
+    out: &mut LaidBits<'_>,
+) -> Option<()>
     requires { AreSlots (record_slots (spec_tree items.now)) }
     ensures { IfSome result (λ done. IsBuilt (RecordShape (spec_tree items.now)) (λ es. record_onto (spec_tree items.now) es []) (CanonRecord (spec_tree items.now)) cursor.old cursor.new out.old out.new) }
 {
@@ -33,7 +37,7 @@ fn record_built(cursor: &mut Cursor<'_>, items: &TextItems<'_>, out: &mut Laid<'
 pub fn records_built(
     cursor: &mut Cursor<'_>,
     items: &TextItems<'_>,
-    out: &mut Laid<'_>,
+    out: &mut LaidBits<'_>,
 ) -> Option<()>
     requires { AreSlots (record_slots (spec_tree items.now)) }
     ensures records { IfSome result (λ done. AreRecords (spec_tree items.now) cursor.old cursor.new out.old out.new) }

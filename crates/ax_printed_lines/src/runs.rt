@@ -1,11 +1,11 @@
 //! What templates print, read from the front of a line.
 ghost use Rattle.std.specs.Prelude.{◌≡◌, ◌+◌, ◌-◌, ◌*◌, ◌^◌, ◌<◌, ◌≤◌, ◌++◌, ◌∷◌, length, take, drop, decimal, IsTrue, IfSome};
 ghost use Rattle.ax_printed_lines.specs.Runs.{IsRead, IsReadBehind};
-ghost use Rattle.ax_text_views.specs.Templates.{template_of, template_width, whole_template};
+ghost use Rattle.ax_text_lines.specs.Templates.{template_of, template_width, whole_template};
 
 use crate::names::eight_in_front;
 use crate::numbers::run_number;
-use ax_text_views::{Literal, Step, Steps};
+use ax_text_lines::{TemplateLiteral, TemplateStep, TemplateSteps};
 
 /// The octets that are compared at once.
 const AT_ONCE: usize = 7;
@@ -69,7 +69,7 @@ fn is_below(number: u64, width: u32) -> bool
 #[inline(always)]
 fn after_step<'t>(
     octets: &'t [u8],
-    literal: &Literal,
+    literal: &TemplateLiteral,
     passed: usize,
     width: u32,
 ) -> Option<(u64, &'t [u8])>
@@ -103,7 +103,7 @@ fn with_bits(bits: u64, number: u64, width: u32) -> u64
 #[tactic(auto, using(crate::proofs::RunsRead::loops))]
 fn after_steps<'t>(
     octets: &'t [u8],
-    steps: &[Step],
+    steps: &[TemplateStep],
     used: u32,
     first: u64,
 ) -> Option<(u64, &'t [u8])>
@@ -124,7 +124,7 @@ fn after_steps<'t>(
 
 /// What comes after a literal, at the space behind it.
 #[inline(always)]
-fn after_tail<'t>(octets: &'t [u8], tail: &Literal) -> Option<&'t [u8]>
+fn after_tail<'t>(octets: &'t [u8], tail: &TemplateLiteral) -> Option<&'t [u8]>
     ensures { IfSome result (λ left. octets.now ≡ take tail.now.count tail.now.octets ++ left.now) }
 {
     if tail.count == 0 {
@@ -151,7 +151,7 @@ fn behind_space(octets: &[u8]) -> Option<&[u8]>
 
 /// The number in front of a template's other numbers, and what comes after it. The space in front of it isn't there.
 #[inline(always)]
-fn after_first<'t>(octets: &'t [u8], step: &Step, width: u32) -> Option<(u64, &'t [u8])>
+fn after_first<'t>(octets: &'t [u8], step: &TemplateStep, width: u32) -> Option<(u64, &'t [u8])>
     requires width { width ≤ 56 }
     ensures read { IfSome result (λ found. 32 ∷ octets.now ≡ take step.now.literal.count step.now.literal.octets ++ (decimal found.0 ++ found.1.now)) }
     ensures below { IfSome result (λ found. found.0 < 2 ^ width) }
@@ -166,7 +166,7 @@ fn after_first<'t>(octets: &'t [u8], step: &Step, width: u32) -> Option<(u64, &'
 /// space isn't there.
 #[inline(always)]
 #[tactic(auto, using(crate::proofs::RunsRead::wholes))]
-pub fn after_template<'t>(octets: &'t [u8], steps: &Steps) -> Option<(u64, &'t [u8])>
+pub fn after_template<'t>(octets: &'t [u8], steps: &TemplateSteps) -> Option<(u64, &'t [u8])>
     requires { template_width (whole_template steps.now) ≤ 56 }
     ensures { IfSome result (λ found. IsRead (whole_template steps.now) found.0 (32 ∷ octets.now) (32 ∷ found.1.now)) }
 {

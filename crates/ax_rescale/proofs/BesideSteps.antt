@@ -17,7 +17,7 @@ use Rattle.ax_format.specs.declared.name.Name.{Name}
 use Rattle.ax_rescale.proofs.EntrySteps.{spare_is, sub_is}
 use Rattle.ax_rescale.specs.Alike.{is_alike}
 use Rattle.ax_rescale.specs.Besides.{named_kind, step_tree}
-use Rattle.ax_rescale.specs.declared.beside.Step.{Step}
+use Rattle.ax_rescale.specs.declared.beside.SlotPair.{SlotPair}
 use Rattle.ax_format.specs.declared.spec.Item.{Item}
 use Rattle.ax_rescale.specs.Beside.{named_in, nth_named, slot_numbered, StepBeside, step_between, step_beside, Beside, beside_under, beside, alike_where}
 
@@ -128,7 +128,7 @@ module _ (k l : KindTree) (steps : List ℕ) (i : ℕ) (made : List ℕ) (k' l' 
   moved_on n made' None e = refl
   moved_on n made' (Some b) e = λ j. Some (record { numbers = (sym (append_assoc made (n ∷ []) b.numbers) ∙ ap (λ (x : List ℕ). x ++ b.numbers) (sym e)) j; old = b.old; new = b.new })
 
-  pub leads_next : (s : ℕ) (next : Step) (made' : List ℕ) → Leads k l steps i made k' l' → i < length steps → s ≡ get_or steps i s → step_beside s k' l' ≡ Some (step_tree next) → made' ≡ made ++ next.number ∷ []
+  pub leads_next : (s : ℕ) (next : SlotPair) (made' : List ℕ) → Leads k l steps i made k' l' → i < length steps → s ≡ get_or steps i s → step_beside s k' l' ≡ Some (step_tree next) → made' ≡ made ++ next.number ∷ []
       → Leads k l steps (i + 1) made' (kind_tree next.old.now) (kind_tree next.new.now)
   leads_next s next made' h within is e pushed = record {
     counted = ap (λ (x : List ℕ). length x) pushed ∙ length-append made (next.number ∷ []) ∙ ap (λ n. n + 1) h.counted;
@@ -143,7 +143,7 @@ module _ (k l : KindTree) (steps : List ℕ) (i : ℕ) (made : List ℕ) (k' l' 
 pub at_steps : (items steps : List ℕ) (k l : KindTree) (o : Option Beside) → items ≡ steps → beside items k l ≡ o → beside steps k l ≡ o
 at_steps items steps k l o e h = ap (λ (x : List ℕ). beside x k l) (sym e) ∙ h
 
-module _ (first : Step) (o : Option StepBeside) (begins : Some (step_tree first) ≡ o) (steps : List ℕ) where
+module _ (first : SlotPair) (o : Option StepBeside) (begins : Some (step_tree first) ≡ o) (steps : List ℕ) where
   from_first : (found : Option Beside) → beside steps (kind_tree first.old.now) (kind_tree first.new.now) ≡ found
       → option_and_then alike_where (option_and_then (λ b. option_map (beside_under b.number) (beside steps b.old b.new)) o) ≡ option_and_then alike_where (option_map (beside_under first.number) found)
   from_first found e =

@@ -6,9 +6,9 @@ use Rattle.ax_format.specs.Tree.{KindTree}
 use Rattle.ax_format.specs.declared.kind.Kind.{Kind}
 use Rattle.ax_format.specs.declared.name.Name.{Name}
 use Rattle.ax_rescale.specs.Beside.{StepBeside}
-use Rattle.ax_rescale.specs.declared.beside.Step.{Step}
+use Rattle.ax_rescale.specs.declared.beside.SlotPair.{SlotPair}
 
-abbrev pub step_tree : Step → StepBeside
+abbrev pub step_tree : SlotPair → StepBeside
 step_tree s = record { number = s.number; old = kind_tree s.old.now; new = kind_tree s.new.now }
 
 abbrev pub named_kind : Bor Name × Bor Kind → List ℕ × KindTree

@@ -14,7 +14,7 @@ use std::alloc::{AllocError, Global};
 
 /// A slot of the new edition, with its kind and that of the old slot of its name.
 #[derive(Clone, Copy)]
-pub(crate) struct Step<'k> {
+pub(crate) struct SlotPair<'k> {
     number: u32,
     old: &'k Kind,
     new: &'k Kind,
@@ -47,12 +47,12 @@ fn item_at<'k>(items: &SlotItems<'k>, frn: u32) -> Option<(&'k Name, &'k Kind)>
 }
 
 /// The new slot that has the name of the old one of that number.
-fn slots_beside<'k>(old: &'k Slots, new: &'k Slots, number: u32) -> Option<Step<'k>>
+fn slots_beside<'k>(old: &'k Slots, new: &'k Slots, number: u32) -> Option<SlotPair<'k>>
     ensures { option_map step_tree result ≡ step_between number (slots_tree old.now) (slots_tree new.now) }
 {
     let (name, kind) = slot_at(old, number)?;
     let (number, to) = find_slot(new, name)?;
-    Some(Step {
+    Some(SlotPair {
         number,
         old: kind,
         new: to,
@@ -61,7 +61,7 @@ fn slots_beside<'k>(old: &'k Slots, new: &'k Slots, number: u32) -> Option<Step<
 
 /// The same below two kinds, where both are compounds.
 #[tactic(auto, using(crate::proofs::BesideSteps::kinds))]
-fn step_beside<'k>(old: &'k Kind, new: &'k Kind, number: u32) -> Option<Step<'k>>
+fn step_beside<'k>(old: &'k Kind, new: &'k Kind, number: u32) -> Option<SlotPair<'k>>
     ensures { option_map step_tree result ≡ step_beside number (kind_tree old.now) (kind_tree new.now) }
 {
     match old {
@@ -74,12 +74,12 @@ fn step_beside<'k>(old: &'k Kind, new: &'k Kind, number: u32) -> Option<Step<'k>
 }
 
 /// The same for the slots of both UAPs.
-fn first_beside<'k>(old: &SlotItems<'k>, new: &Index<'k>, frn: u32) -> Option<Step<'k>>
+fn first_beside<'k>(old: &SlotItems<'k>, new: &Index<'k>, frn: u32) -> Option<SlotPair<'k>>
     ensures { (ns : SlotsTree) → Finds 1 ns new.now → option_map step_tree result ≡ step_between frn (items_tree old.now) ns }
 {
     let (name, kind) = item_at(old, frn)?;
     let (number, to) = new.find(name)?;
-    Some(Step {
+    Some(SlotPair {
         number,
         old: kind,
         new: to,

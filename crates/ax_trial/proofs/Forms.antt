@@ -15,7 +15,7 @@ use Rattle.ax_codec.specs.Standing.{IsCompiled}
 use Rattle.ax_codec.specs.declared.codec.Codec.{Codec}
 use Rattle.ax_trial.specs.Counting.{IsCanonOf}
 use Rattle.ax_vectors.specs.Made.{IsSpelledBlock}
-use Rattle.ax_view.specs.Views.{CountsRecords, FailsThere}
+use Rattle.ax_walk.specs.Views.{CountsRecords, FailsThere}
 use Rattle.ax_canon.specs.Laid.{LaysCanonical}
 
 -- ---- the parts of a spelled block

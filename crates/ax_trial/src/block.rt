@@ -10,7 +10,7 @@ use crate::totals::Totals;
 use ax_canon::lay_block;
 use ax_codec::Codec;
 use ax_format::Spec;
-use ax_view::scan;
+use ax_walk::scan;
 
 /// The sum of octets as numbers.
 pub(crate) fn sum_of(octets: &[u8]) -> u64

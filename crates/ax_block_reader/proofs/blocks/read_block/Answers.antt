@@ -4,7 +4,7 @@ use Rattle.ax_format.specs.Plain.{catalogue_tree, spec_tree, records_tree}
 use Rattle.ax_format.specs.OfCode.{HasNoFlaw}
 use Rattle.ax_format.specs.Specification.{spec_of}
 use Rattle.ax_block_reader.proofs.BlockWays.{no_category_known, category_unknown, records_lack, read_is_read}
-use Rattle.ax_text.proofs.Readables.{record_readable}
+use Rattle.ax_text_form.proofs.Readables.{record_readable}
 use Rattle.ax_block_reader.proofs.blocks.read_block.Goals as goal
 
 pub returns-in_err-category : goal.returns-in_err-category

@@ -8,7 +8,7 @@ use Rattle.ax_format.specs.declared.value.Entry.{roll-Entry}
 use Rattle.ax_block_reader.proofs.KindWays.{fixed_way, fixed_is_read, explicit_way, explicit_is_read, readable_fixed, readable_parts, parts_there, extended_open, extended_inside, extended_is_read, counted_open, counted_inside, counted_is_read, readable_counted, run_open, run_inside, run_is_read, readable_run, compound_open, compound_inside, compound_is_read, sub_way, sub_is_read}
 use Rattle.ax_block_reader.proofs.CountedWays.{CountedRead, no_value_read, value_lacks, value_read, counted_cut, counted_ends, counted_lacks}
 use Rattle.ax_block_reader.proofs.EntryWays.{no_entry_read, entry_lacks, entry_read, entry_skipped, close_lacks, entries_read, entry_is}
-use Rattle.ax_text.proofs.SlotTrees.{slots_from, slots_past}
+use Rattle.ax_text_form.proofs.SlotTrees.{slots_from, slots_past}
 use Rattle.ax_block_reader.proofs.kinds.+kind_value.Goals as goal
 
 pub kind_value-fixed_value-requires : goal.kind_value-fixed_value-requires

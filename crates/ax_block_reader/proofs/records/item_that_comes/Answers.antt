@@ -1,7 +1,7 @@
 use Rattle.std.proofs.Common.{rules, ◌≡◌, Some, refl}
 use Rattle.ax_format.specs.Lookup.{item_of_slot}
 use Rattle.ax_block_reader.proofs.RecordWays.{other_comes}
-use Rattle.ax_text.proofs.SlotTrees.{item_there, name_there}
+use Rattle.ax_text_form.proofs.SlotTrees.{item_there, name_there}
 use Rattle.ax_block_reader.proofs.records.item_that_comes.Goals as goal
 
 pub returns-then-ne-clause-found : goal.returns-then-ne-clause-found

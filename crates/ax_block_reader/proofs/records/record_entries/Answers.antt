@@ -6,7 +6,7 @@ use Rattle.ax_format.specs.Specification.{record_slots}
 use Rattle.ax_format.specs.declared.spec.UapSlot.{UapSlot}
 use Rattle.ax_format.specs.declared.value.Entry.{roll-Entry}
 use Rattle.ax_block_reader.proofs.EntryWays.{no_entry_read, entry_lacks, entry_read, entry_skipped, close_lacks, entries_read, entry_is}
-use Rattle.ax_text.proofs.SlotTrees.{uap_from, uap_past}
+use Rattle.ax_text_form.proofs.SlotTrees.{uap_from, uap_past}
 use Rattle.ax_block_reader.proofs.records.record_entries.Goals as goal
 
 -- the slot at a place of the slice is that of the list

@@ -2,7 +2,7 @@ use Rattle.std.proofs.Common.{◌≡◌, ◌≤◌, ◌+◌, length, drop}
 use Rattle.ax_format.specs.Plain.{spec_tree}
 use Rattle.ax_format.specs.Specification.{record_slots}
 use Rattle.ax_block_reader.proofs.EntryWays.{EntriesRead}
-use Rattle.ax_text.proofs.SlotTrees.{slots_of_uap}
+use Rattle.ax_text_form.proofs.SlotTrees.{slots_of_uap}
 use Rattle.ax_block_reader.proofs.records.record_entries.Given as goal
 
 abbrev pub invariant-loop-slot : goal.invariant-loop-slot

@@ -3,8 +3,8 @@ use Rattle.std.specs.Fn.{FnReturnsAt}
 use Rattle.ax_canon.proofs.KeptRecords.{none_if_fails}
 use Rattle.ax_canon.specs.Kept.{IsCanonicalIf}
 use Rattle.ax_codec.specs.declared.codec.Codec.{Codec}
-use Rattle.ax_view.specs.Views.{FailsThere}
-use Rattle.ax_view.specs.declared.record.RecordView.{RecordView}
+use Rattle.ax_walk.specs.Views.{FailsThere}
+use Rattle.ax_walk.specs.declared.record.RecordView.{RecordView}
 use Rattle.ax_canon.proofs.kept.canonical_if.Goals as goal
 
 pub returns-in-Ok-clause-kept : goal.returns-in-Ok-clause-kept

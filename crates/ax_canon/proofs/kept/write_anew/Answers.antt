@@ -3,7 +3,7 @@ use Rattle.ax_bits.proofs.Outputs.{appends_more}
 use Rattle.ax_bits.proofs.Words.{length-bits}
 use Rattle.ax_bits.specs.Bits.{bits}
 use Rattle.ax_canon.proofs.KeptRecords.{written_anew}
-use Rattle.ax_view.specs.Noted.{canon_in}
+use Rattle.ax_walk.specs.Noted.{canon_in}
 use Rattle.ax_canon.proofs.kept.write_anew.Goals as goal
 
 pub rewrite_field-requires-clause-room : goal.rewrite_field-requires-clause-room

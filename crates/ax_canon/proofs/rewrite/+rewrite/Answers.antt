@@ -9,10 +9,10 @@ use Rattle.ax_codec.specs.Meaning.{meanings, linked_slots}
 use Rattle.ax_codec.specs.Table.{kind_at, record_kind_at}
 use Rattle.ax_fspec.proofs.Marking.{marks_bits}
 use Rattle.ax_fspec.specs.Reading.{kind_read}
-use Rattle.ax_view.proofs.Compounds.{marks_clear, slots_bounds, record_failed}
-use Rattle.ax_view.proofs.MarkedSteps.{next_marked, greatest_at, within_at}
-use Rattle.ax_view.proofs.NodeKinds.{is_element, is_group, is_part, is_extended, is_counted, counted_link, is_by_fx, is_explicit, is_compound, compound_links, compound_mask, compound_falls}
-use Rattle.ax_view.specs.Plain.{IsPlain}
+use Rattle.ax_walk.proofs.Compounds.{marks_clear, slots_bounds, record_failed}
+use Rattle.ax_walk.proofs.MarkedSteps.{next_marked, greatest_at, within_at}
+use Rattle.ax_walk.proofs.NodeKinds.{is_element, is_group, is_part, is_extended, is_counted, counted_link, is_by_fx, is_explicit, is_compound, compound_links, compound_mask, compound_falls}
+use Rattle.ax_walk.specs.Plain.{IsPlain}
 use Rattle.ax_canon.proofs.rewrite.+rewrite.Goals as goal
 
 pub rewrite-rewrite_counted-requires : goal.rewrite-rewrite_counted-requires

@@ -4,7 +4,7 @@ use Rattle.ax_canon.proofs.Pieces.{compound_written, field_room, not_copied, roo
 use Rattle.ax_format.specs.Canonical.{canon}
 use Rattle.ax_fspec.specs.Reading.{kind_read}
 use Rattle.ax_codec.specs.Table.{record_kind_at}
-use Rattle.ax_view.proofs.Compounds.{record_failed}
+use Rattle.ax_walk.proofs.Compounds.{record_failed}
 use Rattle.ax_canon.proofs.rewrite.rewrite_field.Goals as goal
 
 pub write_presence-requires : goal.write_presence-requires

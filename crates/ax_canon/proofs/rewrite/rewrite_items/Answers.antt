@@ -7,9 +7,9 @@ use Rattle.ax_format.specs.Tree.{slots_of, defined_slots}
 use Rattle.ax_fspec.proofs.Marking.{marks_bits}
 use Rattle.ax_fspec.specs.Reading.{entries_at}
 use Rattle.ax_codec.specs.Meaning.{meanings, linked_slots}
-use Rattle.ax_view.proofs.Compounds.{marks_clear, slots_bounds}
-use Rattle.ax_view.specs.Rows.{tree_of}
-use Rattle.ax_view.specs.Walking.{along}
+use Rattle.ax_walk.proofs.Compounds.{marks_clear, slots_bounds}
+use Rattle.ax_walk.specs.Rows.{tree_of}
+use Rattle.ax_walk.specs.Walking.{along}
 use Rattle.ax_canon.proofs.rewrite.rewrite_items.Goals as goal
 
 pub rewrite_marked-requires-clause-bounds : goal.rewrite_marked-requires-clause-bounds

@@ -1,7 +1,7 @@
 use Rattle.std.proofs.Common.{sym, ◌∙◌}
 use Rattle.ax_convert_work.proofs.StandingValues.{records_begin, record_here, record_later, records_end}
 use Rattle.ax_convert_work.proofs.standing.some_stands.Goals as goal
-use Rattle.ax_view.specs.Left.{record_shown}
+use Rattle.ax_walk.specs.Left.{record_shown}
 
 pub loop-one-init : goal.loop-one-init
 loop-one-init c = records_begin c.args.slots.now c.args.view.now.codec.now c.args.view.now.body.now _ c.records-later.ensures

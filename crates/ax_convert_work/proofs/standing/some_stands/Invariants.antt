@@ -1,7 +1,7 @@
 use Rattle.std.proofs.Common.{length}
 use Rattle.ax_convert_work.proofs.StandingValues.{StandsLater}
 use Rattle.ax_convert_work.proofs.standing.some_stands.Given as goal
-use Rattle.ax_view.specs.Left.{records_left}
+use Rattle.ax_walk.specs.Left.{records_left}
 
 abbrev pub invariant-loop-one : goal.invariant-loop-one
 invariant-loop-one l = StandsLater l.slots l.view.codec.now l.view.body.now (records_left l.later)

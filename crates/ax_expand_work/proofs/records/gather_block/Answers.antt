@@ -1,5 +1,5 @@
 use Rattle.ax_expand.specs.Expansion.{expansion_tree}
-use Rattle.ax_view.specs.Left.{record_shown, records_left}
+use Rattle.ax_walk.specs.Left.{record_shown, records_left}
 use Rattle.ax_expand_work.proofs.GatheredRecords.{gathering_goes_on, gathered_all}
 use Rattle.ax_expand_work.proofs.records.gather_block.Goals as goal
 

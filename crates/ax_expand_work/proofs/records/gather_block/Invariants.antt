@@ -1,5 +1,5 @@
 use Rattle.ax_expand.specs.Expansion.{expansion_tree}
-use Rattle.ax_view.specs.Left.{records_left}
+use Rattle.ax_walk.specs.Left.{records_left}
 use Rattle.ax_expand_work.proofs.GatheredRecords.{Gathering}
 use Rattle.ax_expand_work.proofs.records.gather_block.Given as goal
 

@@ -1,7 +1,7 @@
 use Rattle.std.proofs.Common.{◌∙◌, ap}
 use Rattle.ax_filter.proofs.PlacedRecords.{entries_same}
 use Rattle.ax_expressions.specs.Plans.{finds, plan_tree, says}
-use Rattle.ax_view.specs.Placing.{entries_there}
+use Rattle.ax_walk.specs.Placing.{entries_there}
 use Rattle.ax_filter.proofs.holding.says_by_places.Goals as goal
 
 pub returns-in-Some-clause-said : goal.returns-in-Some-clause-said

@@ -1,7 +1,7 @@
 use Rattle.std.proofs.Common.{None, ◌∙◌, ap, sym, rules}
 use Rattle.ax_expressions.proofs.Levels.{quiet_says}
 use Rattle.ax_expressions.specs.Plans.{finds, meets, plan_tree}
-use Rattle.ax_view.specs.Shown.{record_entries}
+use Rattle.ax_walk.specs.Shown.{record_entries}
 use Rattle.ax_filter.proofs.holding.says_of.Goals as goal
 
 pub returns-then-not-meets-clause-said : goal.returns-then-not-meets-clause-said

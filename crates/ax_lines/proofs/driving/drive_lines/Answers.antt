@@ -16,11 +16,11 @@ returns-in-Ok-None-clause-runs g c =
 pub returns-in-Err-clause-runs : goal.returns-in-Err-clause-runs
 returns-in-Err-clause-runs g c =
     let opened = refusal_opens _ c.lines.reader _ c.next.result c.in-Err.error c.in-Err.is c.lines.invariant.going c.next.ensures.again in
-    rw c.reader_end.ensures (run_refused _ _ _ _ _ _ _ _ _ _ c.lines.invariant (source_change g.S.Source c.lines.source c.next.new.source) (record { left = refl; taken = refl; faults = refl }) c.next.ensures.never_falls c.in-Err.error opened
+    rw c.line_reader_end.ensures (run_refused _ _ _ _ _ _ _ _ _ _ c.lines.invariant (source_change g.S.Source c.lines.source c.next.new.source) (record { left = refl; taken = refl; faults = refl }) c.next.ensures.never_falls c.in-Err.error opened
     (c.in-Err.ensures.end opened) (c.in-Err.ensures.fault opened) (c.in-Err.ensures.past_limit opened) (c.in-Err.ensures.rose opened) c.next.ensures.once c.in-Err.ensures.quiet)
 
 pub returns-in-Err-clause-stands : goal.returns-in-Err-clause-stands
-returns-in-Err-clause-stands g c = λ input line fault left is. absurd (never_refused _ line fault c.in-Err.error (rw c.reader_end.ensures at is))
+returns-in-Err-clause-stands g c = λ input line fault left is. absurd (never_refused _ line fault c.in-Err.error (rw c.line_reader_end.ensures at is))
 
 pub returns-in-Err-do_line-clause-runs : goal.returns-in-Err-do_line-clause-runs
 returns-in-Err-do_line-clause-runs g c =

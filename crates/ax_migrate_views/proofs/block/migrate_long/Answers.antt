@@ -3,7 +3,7 @@ use Rattle.ax_migrate_views.proofs.Keeping.{none_kept}
 use Rattle.ax_migrate_views.specs.Pieces.{FindsTooLong, WritesBlocks}
 use Rattle.ax_endpoints.specs.Changes.{sink_change}
 use Rattle.ax_blocks.proofs.Taken.{all, failed}
-use Rattle.ax_view.specs.Views.{FailsThere}
+use Rattle.ax_walk.specs.Views.{FailsThere}
 use Rattle.ax_migrate_views.proofs.Takings.{block_fails, long_taken, long_cut, record_long}
 use Rattle.ax_migrate_views.proofs.block.migrate_long.Goals as goal
 

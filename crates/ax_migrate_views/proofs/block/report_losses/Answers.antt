@@ -1,6 +1,6 @@
 use Rattle.std.proofs.Common.{subst}
 use Rattle.ax_migrate_views.proofs.Takings.{lines_never}
-use Rattle.ax_view.specs.Views.{FailsThere}
+use Rattle.ax_walk.specs.Views.{FailsThere}
 use Rattle.ax_migrate_views.proofs.block.report_losses.Goals as goal
 
 pub returns-in-Err : goal.returns-in-Err

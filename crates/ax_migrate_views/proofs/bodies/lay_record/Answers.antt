@@ -6,7 +6,7 @@ use Rattle.ax_moves.specs.Laying.{Lays}
 use Rattle.ax_moves.specs.Octets.{field_by, entries_canon_by}
 use Rattle.ax_moves.specs.Wholes.{slots_in}
 use Rattle.ax_codec.specs.Table.{record_kind_at}
-use Rattle.ax_view.specs.Placing.{entries_there}
+use Rattle.ax_walk.specs.Placing.{entries_there}
 use Rattle.ax_migrate_views.proofs.bodies.lay_record.Goals as goal
 
 pub lay_moved-requires-clause-placed : goal.lay_moved-requires-clause-placed

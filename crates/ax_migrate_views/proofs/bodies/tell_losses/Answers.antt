@@ -4,7 +4,7 @@ use Rattle.ax_migration.specs.Losing.{lost_lines}
 use Rattle.ax_moves.proofs.Slots.{placed_by}
 use Rattle.ax_moves.specs.Laying.{Gathers}
 use Rattle.ax_moves.specs.Lost.{key_paths}
-use Rattle.ax_view.specs.Placing.{entries_there}
+use Rattle.ax_walk.specs.Placing.{entries_there}
 use Rattle.ax_migrate_views.proofs.bodies.tell_losses.Goals as goal
 
 pub tell_record-requires-clause-placed : goal.tell_record-requires-clause-placed

@@ -1,7 +1,7 @@
 use Rattle.std.proofs.Common.{length, get_or, ap, arith, subst}
 use Rattle.std.proofs.lemmas.Bool.{ltb-true}
 use Rattle.ax_migrate_views.proofs.KeptRecords.{few_of}
-use Rattle.ax_view.specs.Placing.{IsMarkedItem}
+use Rattle.ax_walk.specs.Placing.{IsMarkedItem}
 use Rattle.ax_migrate_views.proofs.kept.is_short.Goals as goal
 
 pub returns-in-Some-marked_item : goal.returns-in-Some-marked_item

@@ -6,8 +6,8 @@ use Rattle.ax_migrate_views.specs.Blocks.{old_tree}
 use Rattle.ax_format.specs.Bodies.{SpellsBody}
 use Rattle.ax_format.specs.Tree.{EntriesTree}
 use Rattle.ax_codec.specs.Table.{record_kind_at}
-use Rattle.ax_view.specs.Pieces.{ArePieces}
-use Rattle.ax_view.specs.Views.{CountsRecords}
+use Rattle.ax_walk.specs.Pieces.{ArePieces}
+use Rattle.ax_walk.specs.Views.{CountsRecords}
 use Rattle.ax_migrate_views.proofs.Keeping.{one_kept}
 use Rattle.ax_migrate_views.proofs.Splitting.{judged_first, judged_more, judged_long, judged_none, fit_within_left, more_there}
 use Rattle.ax_migrate_views.proofs.pieces.first_too_long.Goals as goal

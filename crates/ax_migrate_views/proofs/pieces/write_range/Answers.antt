@@ -1,7 +1,7 @@
 use Rattle.std.proofs.Common.{◌≤◌, arith, false, subst, sym}
 use Rattle.ax_migrate_views.proofs.ViewRanges.{all}
 use Rattle.ax_codec.specs.Table.{record_kind_at}
-use Rattle.ax_view.specs.Pieces.{ArePieces}
+use Rattle.ax_walk.specs.Pieces.{ArePieces}
 use Rattle.std.proofs.lemmas.List.{length-take-le}
 use Rattle.ax_migrate_views.proofs.Splitting.{range_written}
 use Rattle.ax_migrate_views.proofs.pieces.write_range.Goals as goal

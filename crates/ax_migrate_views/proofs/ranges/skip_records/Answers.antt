@@ -2,7 +2,7 @@ use Rattle.std.proofs.Common.{◌∙◌, ap, arith, drop, length, sym, take}
 use Rattle.ax_migrate_views.proofs.RangeRecords.{skip_begins, skip_within, skip_more, skip_never, skip_ends}
 use Rattle.ax_migrate_views.proofs.ranges.skip_records.Goals as goal
 use Rattle.ax_migrate_views.specs.Ranges.{shown_octets}
-use Rattle.ax_view.specs.Left.{record_shown, records_left}
+use Rattle.ax_walk.specs.Left.{record_shown, records_left}
 
 pub loop-count-init : goal.loop-count-init
 loop-count-init c = skip_begins (records_left c.args.later.now) c.args.number

@@ -9,8 +9,8 @@ use Rattle.ax_endpoints.proofs.Pieces.{same_text}
 use Rattle.ax_fspec.specs.Reading.{FailsAt, kind_read}
 use Rattle.ax_codec.specs.Table.{record_kind_at}
 use Rattle.ax_codec.specs.declared.codec.Codec.{Codec}
-use Rattle.ax_view.specs.Placing.{PlacesKind, entries_there}
-use Rattle.ax_view.specs.Values.{IsOne, entries_in, value_in}
+use Rattle.ax_walk.specs.Placing.{PlacesKind, entries_there}
+use Rattle.ax_walk.specs.Values.{IsOne, entries_in, value_in}
 use Rattle.ax_migrate_views.proofs.writing.write_record.Goals as goal
 
 pub unreachable-requires : goal.unreachable-requires

@@ -8,8 +8,8 @@ use Rattle.ax_bits.specs.Bits.{bits}
 use Rattle.ax_format.proofs.CanonSpells.{spells_shape}
 use Rattle.ax_format.specs.Canonical.{canon}
 use Rattle.ax_codec.specs.Table.{kind_at, record_kind_at}
-use Rattle.ax_view.proofs.Spelled.{value_spelled}
-use Rattle.ax_view.specs.Values.{value_in}
+use Rattle.ax_walk.proofs.Spelled.{value_spelled}
+use Rattle.ax_walk.specs.Values.{value_in}
 use Rattle.ax_moves.proofs.by_slot.does_stay.Goals as goal
 
 pub offset_bounds-moves-place : goal.offset_bounds-moves-place

@@ -1,6 +1,6 @@
 use Rattle.ax_relation.specs.PlainMoves.{moves_tree}
 use Rattle.ax_moves.proofs.KeepingSteps.{kind_stays, leaf_stays}
-use Rattle.ax_view.proofs.NodeKinds.{compound_links}
+use Rattle.ax_walk.proofs.NodeKinds.{compound_links}
 use Rattle.ax_moves.proofs.keeping.keeps.Goals as goal
 
 pub keeps_all-requires-clause-links : goal.keeps_all-requires-clause-links

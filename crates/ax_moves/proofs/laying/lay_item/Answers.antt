@@ -1,7 +1,7 @@
 use Rattle.std.proofs.Common.{arith}
 use Rattle.ax_moves.proofs.LaidBits.{lays_at}
 use Rattle.ax_format.specs.Canonical.{canon}
-use Rattle.ax_view.specs.Shown.{item_kind, item_value}
+use Rattle.ax_walk.specs.Shown.{item_kind, item_value}
 use Rattle.ax_moves.proofs.laying.lay_item.Goals as goal
 
 pub returns-clause-laid : goal.returns-clause-laid

@@ -3,7 +3,7 @@ use Rattle.ax_bits.specs.Out.{loan, room}
 use Rattle.ax_moves.proofs.LaidBits.{item_octets, begins}
 use Rattle.ax_moves.specs.Laying.{Begins}
 use Rattle.ax_format.specs.Canonical.{canon}
-use Rattle.ax_view.specs.Shown.{item_kind, item_value}
+use Rattle.ax_walk.specs.Shown.{item_kind, item_value}
 use Rattle.ax_moves.proofs.laying.spell_item.Goals as goal
 
 pub returns-clause-begins : goal.returns-clause-begins

@@ -1,6 +1,6 @@
 use Rattle.std.proofs.Common.{arith}
 use Rattle.ax_moves.proofs.ItemParts.{passed_few, passed_first}
-use Rattle.ax_view.specs.Left.{parts_left}
+use Rattle.ax_walk.specs.Left.{parts_left}
 use Rattle.ax_moves.proofs.leading.count_parts.Goals as goal
 
 pub loop-count-init : goal.loop-count-init

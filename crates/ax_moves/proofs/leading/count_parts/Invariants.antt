@@ -1,6 +1,6 @@
 use Rattle.std.proofs.Common.{length}
 use Rattle.ax_moves.proofs.ItemParts.{PartsPassed}
-use Rattle.ax_view.specs.Left.{parts_left}
+use Rattle.ax_walk.specs.Left.{parts_left}
 use Rattle.ax_moves.proofs.leading.count_parts.Given as goal
 
 abbrev pub invariant-loop-count : goal.invariant-loop-count

@@ -1,7 +1,7 @@
 use Rattle.std.proofs.Common.{◌∙◌, ap, arith, length, sym}
 use Rattle.ax_moves.proofs.ItemParts.{few_octets}
 use Rattle.ax_format.specs.Placed.{has_part}
-use Rattle.ax_view.specs.Shown.{item_value}
+use Rattle.ax_walk.specs.Shown.{item_value}
 use Rattle.ax_moves.proofs.leading.has_counted.Goals as goal
 
 pub returns-then-octets-number-clause-has : goal.returns-then-octets-number-clause-has

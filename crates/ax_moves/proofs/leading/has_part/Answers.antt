@@ -1,8 +1,8 @@
 use Rattle.std.proofs.Common.{◌∙◌, ap, arith, length, sym}
 use Rattle.ax_moves.proofs.ItemParts.{few_octets, parts_first}
 use Rattle.ax_format.specs.Placed.{has_part}
-use Rattle.ax_view.specs.Left.{parts_left}
-use Rattle.ax_view.specs.Shown.{item_value}
+use Rattle.ax_walk.specs.Left.{parts_left}
+use Rattle.ax_walk.specs.Shown.{item_value}
 use Rattle.ax_moves.proofs.leading.has_part.Goals as goal
 
 pub loop-later-init : goal.loop-later-init

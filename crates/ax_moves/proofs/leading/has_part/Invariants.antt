@@ -1,6 +1,6 @@
 use Rattle.std.proofs.Common.{length}
 use Rattle.ax_moves.proofs.ItemParts.{PartsLeft}
-use Rattle.ax_view.specs.Left.{parts_left}
+use Rattle.ax_walk.specs.Left.{parts_left}
 use Rattle.ax_moves.proofs.leading.has_part.Given as goal
 
 abbrev pub invariant-loop-later : goal.invariant-loop-later

@@ -9,8 +9,8 @@ use Rattle.ax_moves.specs.Subitems.{OthersRemain}
 use Rattle.ax_moves.specs.Wholes.{slots_in}
 use Rattle.ax_format.specs.Canonical.{canon}
 use Rattle.ax_codec.specs.Table.{kind_at, record_kind_at}
-use Rattle.ax_view.proofs.NodeKinds.{compound_links}
-use Rattle.ax_view.specs.Values.{value_in}
+use Rattle.ax_walk.proofs.NodeKinds.{compound_links}
+use Rattle.ax_walk.specs.Values.{value_in}
 use Rattle.ax_moves.proofs.subitems.leaving_in.Goals as goal
 
 pub offset_bounds-moves-place : goal.offset_bounds-moves-place

@@ -8,10 +8,10 @@ use Rattle.ax_moves.specs.Laying.{Gathers}
 use Rattle.ax_moves.specs.Lost.{losses_below}
 use Rattle.ax_moves.specs.Wholes.{whole_entries}
 use Rattle.ax_format.specs.Tree.{marked}
-use Rattle.ax_view.proofs.Found.{no_compound}
-use Rattle.ax_view.proofs.NodeKinds.{compound_links}
-use Rattle.ax_view.specs.Shown.{item_value}
-use Rattle.ax_view.specs.declared.places.FoundItem.{FoundItem}
+use Rattle.ax_walk.proofs.Found.{no_compound}
+use Rattle.ax_walk.proofs.NodeKinds.{compound_links}
+use Rattle.ax_walk.specs.Shown.{item_value}
+use Rattle.ax_walk.specs.declared.places.FoundItem.{FoundItem}
 use Rattle.ax_moves.proofs.telling.+telling.Goals as goal
 use Rattle.ax_moves.proofs.telling.+telling.Goals.{tell_keys-in-Some-item_of, tell_keys-in_default-item_of}
 

@@ -1,6 +1,6 @@
 use Rattle.std.proofs.Common.{length, arith, sym, ◌∙◌}
 use Rattle.ax_moves.proofs.TellingSteps.{leaf_none, own_part}
-use Rattle.ax_view.specs.Shown.{item_value}
+use Rattle.ax_walk.specs.Shown.{item_value}
 use Rattle.ax_moves.proofs.telling.is_there.Goals as goal
 
 pub returns-then-len-depth-clause-there : goal.returns-then-len-depth-clause-there

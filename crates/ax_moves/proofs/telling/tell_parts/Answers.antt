@@ -2,7 +2,7 @@ use Rattle.std.proofs.Common.{◌≡◌, ◌+◌, ◌∙◌, ap, arith, sym, suc
 use Rattle.ax_migration.specs.Losing.{lost_line}
 use Rattle.ax_moves.proofs.TellingSteps.{leaf_skipped, line_told}
 use Rattle.ax_moves.proofs.ToldLines.{told_same}
-use Rattle.ax_view.specs.Shown.{item_value}
+use Rattle.ax_walk.specs.Shown.{item_value}
 use Rattle.ax_moves.proofs.telling.tell_parts.Goals as goal
 
 pub loop-index-preserved-then-is_there : goal.loop-index-preserved-then-is_there

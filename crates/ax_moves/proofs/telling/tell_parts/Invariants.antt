@@ -1,7 +1,7 @@
 use Rattle.std.proofs.Common.{◌-◌, ◌≤◌, drop, length, IfSome}
 use Rattle.ax_moves.proofs.TellingSteps.{KeysTold}
 use Rattle.ax_moves.specs.Lost.{HasParts}
-use Rattle.ax_view.specs.Shown.{item_value}
+use Rattle.ax_walk.specs.Shown.{item_value}
 use Rattle.ax_moves.proofs.telling.tell_parts.Given as goal
 
 abbrev pub invariant-loop-index : goal.invariant-loop-index

@@ -21,9 +21,9 @@ use Rattle.ax_moves.specs.Wholes.{whole_slots, whole_entries}
 use Rattle.ax_codec.specs.Table.{LinksWithin}
 use Rattle.ax_codec.specs.declared.codec.Codec.{Codec}
 use Rattle.ax_codec.specs.declared.node.Node.{Node}
-use Rattle.ax_view.proofs.NodeKinds.{compound_links, extended_links}
-use Rattle.ax_view.specs.Shown.{item_value}
-use Rattle.ax_view.specs.declared.places.FoundItem.{FoundItem}
+use Rattle.ax_walk.proofs.NodeKinds.{compound_links, extended_links}
+use Rattle.ax_walk.specs.Shown.{item_value}
+use Rattle.ax_walk.specs.declared.places.FoundItem.{FoundItem}
 use Rattle.ax_moves.proofs.values.+laying.Goals as goal
 
 pub lay_entries-loop-index-init : goal.lay_entries-loop-index-init

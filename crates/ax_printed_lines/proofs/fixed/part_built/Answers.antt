@@ -1,5 +1,5 @@
 use Rattle.std.proofs.lemmas.Option.{IfSome_then}
-use Rattle.ax_text_views.specs.HeldText.{text_part}
+use Rattle.ax_text_lines.specs.HeldText.{text_part}
 use Rattle.ax_printed_lines.proofs.TemplatesBuilt.{part_narrow, part_fits, part_goes}
 use Rattle.ax_printed_lines.proofs.fixed.part_built.Goals as goal
 

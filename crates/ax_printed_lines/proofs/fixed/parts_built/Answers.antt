@@ -2,8 +2,8 @@ use Rattle.std.proofs.Common.{◌≡◌, ◌∷◌, ◌+◌, ◌-◌, ◌<◌, �
 use Rattle.std.proofs.lemmas.Option.{IfSome_then}
 use Rattle.ax_bits.specs.Bits.{word}
 use Rattle.ax_format.specs.Widths.{fx_width}
-use Rattle.ax_text.proofs.Printed.{from_place}
-use Rattle.ax_text_views.specs.HeldText.{text_part}
+use Rattle.ax_text_form.proofs.Printed.{from_place}
+use Rattle.ax_text_lines.specs.HeldText.{text_part}
 use Rattle.ax_printed_lines.specs.Laid.{Lays}
 use Rattle.ax_printed_lines.proofs.ListsBuilt.{parts_first, part_bounds, part_next, part_last, PartIsBuilt}
 use Rattle.ax_printed_lines.proofs.fixed.parts_built.Goals as goal

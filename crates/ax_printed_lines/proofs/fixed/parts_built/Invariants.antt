@@ -1,5 +1,5 @@
 use Rattle.std.proofs.Common.{◌≤◌, ◌-◌, length, map, drop}
-use Rattle.ax_text_views.specs.HeldText.{text_part}
+use Rattle.ax_text_lines.specs.HeldText.{text_part}
 use Rattle.ax_printed_lines.proofs.ListsBuilt.{PartsLeft}
 use Rattle.ax_printed_lines.proofs.fixed.parts_built.Given as goal
 

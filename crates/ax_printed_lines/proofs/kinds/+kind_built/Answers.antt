@@ -1,7 +1,7 @@
 use Rattle.std.proofs.Common.{◌≡◌, ◌<◌, ◌≤◌, ◌+◌, ℕ, true, false, length, drop, get_or, arith, ap, sym, subst, refl, rules}
 use Rattle.std.proofs.lemmas.Option.{IfSome_then}
-use Rattle.ax_text.proofs.Printed.{from_place}
-use Rattle.ax_text_views.specs.HeldText.{text_kind, text_slot, text_slots}
+use Rattle.ax_text_form.proofs.Printed.{from_place}
+use Rattle.ax_text_lines.specs.HeldText.{text_kind, text_slot, text_slots}
 use Rattle.ax_printed_lines.specs.Laid.{Leaves}
 use Rattle.ax_printed_lines.specs.Printed.{BuildsSlot}
 use Rattle.ax_printed_lines.proofs.EntriesBuilt.{EntriesLeft, entries_first, slot_bounds, slot_few, passed_to, entry_passed, entry_taken, entry_passed_by, entry_taken_by, entries_less, entries_ended}

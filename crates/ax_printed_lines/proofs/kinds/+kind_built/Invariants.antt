@@ -1,5 +1,5 @@
 use Rattle.std.proofs.Common.{◌≤◌, ◌+◌, ◌-◌, ◌*◌, length, drop}
-use Rattle.ax_text_views.specs.HeldText.{text_kind, text_slots}
+use Rattle.ax_text_lines.specs.HeldText.{text_kind, text_slots}
 use Rattle.ax_printed_lines.proofs.EntriesBuilt.{EntriesLeft}
 use Rattle.ax_printed_lines.proofs.KindsBuilt.{EachLeft}
 use Rattle.ax_printed_lines.proofs.kinds.+kind_built.Given as goal

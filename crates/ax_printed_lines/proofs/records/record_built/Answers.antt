@@ -4,8 +4,8 @@ use Rattle.ax_format.specs.Canonical.{entries_canon}
 use Rattle.ax_format.specs.Plain.{spec_tree}
 use Rattle.ax_format.specs.Specification.{record_slots}
 use Rattle.ax_format.specs.Tree.{slots_of}
-use Rattle.ax_text.specs.ValueText.{closing, entries_onto}
-use Rattle.ax_text_views.specs.HeldText.{text_slots}
+use Rattle.ax_text_form.specs.ValueText.{closing, entries_onto}
+use Rattle.ax_text_lines.specs.HeldText.{text_slots}
 use Rattle.ax_printed_lines.specs.Printed.{AreSlots, IsBuilt, HasMarks}
 use Rattle.ax_printed_lines.proofs.RecordsBuilt.{record_whole}
 use Rattle.ax_printed_lines.proofs.records.record_built.Goals as goal

@@ -1,7 +1,7 @@
 use Rattle.std.proofs.Common.{subst}
 use Rattle.ax_format.specs.Plain.{spec_tree}
 use Rattle.ax_trial.proofs.Forms.{form_of, no_fault, some_body}
-use Rattle.ax_view.specs.Views.{FailsThere}
+use Rattle.ax_walk.specs.Views.{FailsThere}
 use Rattle.ax_trial.proofs.block.lay_form.Goals as goal
 
 pub scan-requires : goal.scan-requires

@@ -2,7 +2,7 @@ use Rattle.std.proofs.Common.{length, rules, ◌==◌, ◌∙◌, ap, true}
 use Rattle.ax_blocks.specs.Reader.{raw_tree}
 use Rattle.ax_convert_work.proofs.ToldBlocks.{tells_none, tells_fault}
 use Rattle.ax_convert_work.proofs.choosing.ConvertBlocks.may_convert.Goals as goal
-use Rattle.ax_view.proofs.ItemSteps.{empty_is}
+use Rattle.ax_walk.proofs.ItemSteps.{empty_is}
 
 pub returns-then-is_empty : goal.returns-then-is_empty
 returns-then-is_empty c =

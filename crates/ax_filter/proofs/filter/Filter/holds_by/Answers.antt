@@ -4,7 +4,7 @@ use Rattle.ax_filter.proofs.Marked.{all_slots, all_mark}
 use Rattle.ax_expressions.proofs.PlanTrees.{always_says}
 use Rattle.ax_expressions.proofs.PlannedTests.{said_of}
 use Rattle.ax_expressions.specs.Plans.{finds, plan_tree, says}
-use Rattle.ax_view.specs.Shown.{record_entries}
+use Rattle.ax_walk.specs.Shown.{record_entries}
 use Rattle.ax_filter.proofs.filter.Filter.holds_by.Goals as goal
 
 pub returns-in-Always-clause-holds : goal.returns-in-Always-clause-holds

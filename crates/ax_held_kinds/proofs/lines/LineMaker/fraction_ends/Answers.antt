@@ -1,6 +1,6 @@
 use Rattle.std.proofs.Common.{◌≡◌, ◌+◌, ◌/◌, ◌^◌, [], ◌∷◌, IfSome, length, length-append, ap, subst, ◌∙◌}
-use Rattle.ax_text.specs.FractionEnds.{fraction_end}
-use Rattle.ax_text.proofs.QuantityLines.{end_more}
+use Rattle.ax_text_form.specs.FractionEnds.{fraction_end}
+use Rattle.ax_text_form.proofs.QuantityLines.{end_more}
 use Rattle.ax_held_kinds.proofs.lines.LineMaker.fraction_ends.Goals as goal
 
 pub loop-twos-preserved : goal.loop-twos-preserved

@@ -1,5 +1,5 @@
 use Rattle.std.proofs.Common.{◌≡◌, length}
-use Rattle.ax_text.specs.FractionEnds.{fraction_ends}
+use Rattle.ax_text_form.specs.FractionEnds.{fraction_ends}
 use Rattle.ax_held_kinds.proofs.lines.LineMaker.fraction_ends.Given as goal
 
 abbrev pub invariant-loop-twos : goal.invariant-loop-twos

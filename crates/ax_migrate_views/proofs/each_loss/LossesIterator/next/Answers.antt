@@ -1,6 +1,6 @@
 use Rattle.std.proofs.Common.{ap, sym, ◌∙◌}
 use Rattle.ax_migrate_views.proofs.LossSteps.{none_left}
-use Rattle.ax_view.specs.Left.{records_left}
+use Rattle.ax_walk.specs.Left.{records_left}
 use Rattle.ax_migrate_views.proofs.each_loss.LossesIterator.next.Goals as goal
 
 pub returns-in_default-next-clause-steps : goal.returns-in_default-next-clause-steps

@@ -1,6 +1,6 @@
 use Rattle.std.proofs.Common.{◌≡◌, length}
 use Rattle.ax_migrate_views.specs.Losses.{losses_left}
-use Rattle.ax_view.specs.Left.{records_left}
+use Rattle.ax_walk.specs.Left.{records_left}
 use Rattle.ax_migrate_views.proofs.each_loss.LossesIterator.next.Given as goal
 
 abbrev pub invariant-loop-loss : goal.invariant-loop-loss

@@ -4,7 +4,7 @@ use Rattle.ax_migrate_views.proofs.LossSteps.{records_few}
 use Rattle.ax_migrate_views.proofs.migrator.Migrator.fit_records.Goals as goal
 use Rattle.ax_migrate_views.specs.Blocks.{LaysMigrated}
 use Rattle.ax_migrate_views.specs.Ranges.{SpellsOld}
-use Rattle.ax_view.specs.Left.{record_shown, records_left}
+use Rattle.ax_walk.specs.Left.{record_shown, records_left}
 
 pub loop-record-init : goal.loop-record-init
 loop-record-init c = (fit_begins c.args.self.now (records_left c.args.later.now) c.requires.records, omega arith, omega arith)

@@ -1,7 +1,7 @@
 use Rattle.std.proofs.Common.{false, subst}
 use Rattle.ax_migrate_views.proofs.ViewRanges.{range_old, range_size, range_laid}
 use Rattle.ax_codec.specs.Table.{record_kind_at}
-use Rattle.ax_view.specs.Pieces.{ArePieces}
+use Rattle.ax_walk.specs.Pieces.{ArePieces}
 use Rattle.ax_migrate_views.proofs.migrator.Migrator.lay_range.Goals as goal
 
 pub lay_spelled-requires-clause-spelled : goal.lay_spelled-requires-clause-spelled

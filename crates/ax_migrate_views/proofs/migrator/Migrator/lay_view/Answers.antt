@@ -1,8 +1,8 @@
 use Rattle.std.proofs.Common.{false, subst}
 use Rattle.ax_migrate_views.proofs.ViewBlocks.{view_never_fails}
 use Rattle.ax_codec.specs.Table.{record_kind_at}
-use Rattle.ax_view.specs.Pieces.{ArePieces}
-use Rattle.ax_view.specs.Views.{FailsThere}
+use Rattle.ax_walk.specs.Pieces.{ArePieces}
+use Rattle.ax_walk.specs.Views.{FailsThere}
 use Rattle.ax_migrate_views.proofs.migrator.Migrator.lay_view.Goals as goal
 
 pub unreachable-requires : goal.unreachable-requires

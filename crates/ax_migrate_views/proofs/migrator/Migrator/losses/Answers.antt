@@ -1,8 +1,8 @@
 use Rattle.std.proofs.Common.{arith, subst}
 use Rattle.ax_migrate_views.proofs.LossSteps.{records_few}
 use Rattle.ax_migrate_views.proofs.ToldLosses.{losses_each}
-use Rattle.ax_view.specs.Left.{records_left}
-use Rattle.ax_view.specs.Views.{SpellEach}
+use Rattle.ax_walk.specs.Left.{records_left}
+use Rattle.ax_walk.specs.Views.{SpellEach}
 use Rattle.ax_migrate_views.proofs.migrator.Migrator.losses.Goals as goal
 
 pub invariant_of-result : goal.invariant_of-result

@@ -3,7 +3,7 @@ use Rattle.std.proofs.lemmas.List.{length-take-le}
 use Rattle.ax_bits.specs.Out.{room}
 use Rattle.ax_migrate_views.proofs.ViewBlocks.{few, fits, appended}
 use Rattle.ax_codec.specs.Table.{record_kind_at}
-use Rattle.ax_view.specs.Pieces.{ArePieces}
+use Rattle.ax_walk.specs.Pieces.{ArePieces}
 use Rattle.ax_migrate_views.proofs.migrator.Migrator.migrate.Goals as goal
 
 pub slice_bounds-output-end : goal.slice_bounds-output-end

@@ -1,9 +1,9 @@
 use Rattle.std.proofs.Common.{◌+◌, arith, ap, false, length, subst}
 use Rattle.ax_migrate_views.proofs.ViewRanges.{there_in, shown_few, later_few, later_there, range_within, range_spelled}
 use Rattle.ax_codec.specs.Table.{record_kind_at}
-use Rattle.ax_view.specs.Left.{records_left}
-use Rattle.ax_view.specs.Pieces.{ArePieces}
-use Rattle.ax_view.specs.Views.{SpellEach}
+use Rattle.ax_walk.specs.Left.{records_left}
+use Rattle.ax_walk.specs.Pieces.{ArePieces}
+use Rattle.ax_walk.specs.Views.{SpellEach}
 use Rattle.ax_migrate_views.proofs.migrator.Migrator.range_octets.Goals as goal
 
 pub skip_records-start-requires-clause-there : goal.skip_records-start-requires-clause-there

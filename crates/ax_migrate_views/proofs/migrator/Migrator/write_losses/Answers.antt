@@ -11,10 +11,10 @@ use Rattle.ax_moves.specs.Lost.{key_paths}
 use Rattle.ax_endpoints.proofs.Pieces.{nothing_written}
 use Rattle.ax_codec.specs.Table.{record_kind_at}
 use Rattle.ax_codec.specs.declared.codec.Codec.{Codec}
-use Rattle.ax_view.specs.Left.{record_shown, records_left}
-use Rattle.ax_view.specs.Pieces.{ArePieces}
-use Rattle.ax_view.specs.Shown.{record_entries}
-use Rattle.ax_view.specs.Views.{SpellEach}
+use Rattle.ax_walk.specs.Left.{record_shown, records_left}
+use Rattle.ax_walk.specs.Pieces.{ArePieces}
+use Rattle.ax_walk.specs.Shown.{record_entries}
+use Rattle.ax_walk.specs.Views.{SpellEach}
 use Rattle.ax_migrate_views.proofs.migrator.Migrator.write_losses.Goals as goal
 
 pub loop-one-init : goal.loop-one-init

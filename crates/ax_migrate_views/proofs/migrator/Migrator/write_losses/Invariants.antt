@@ -4,7 +4,7 @@ use Rattle.ax_migrate_views.proofs.LossSteps.{Front}
 use Rattle.ax_migrate_views.proofs.WritingSteps.{OfCodec}
 use Rattle.ax_migrate_views.specs.Losses.{shown_losses}
 use Rattle.ax_moves.specs.Lost.{key_paths}
-use Rattle.ax_view.specs.Left.{records_left}
+use Rattle.ax_walk.specs.Left.{records_left}
 use Rattle.ax_migrate_views.proofs.migrator.Migrator.write_losses.Given as goal
 
 abbrev pub invariant-loop-one : goal.invariant-loop-one

@@ -1,0 +1,116 @@
+-- What was read of a body, and shown.
+use Rattle.std.specs.Prelude.{◌≡◌, ℕ, List, ◌∷◌, take, drop, codes}
+use Rattle.ax_bits.specs.Bits.{bits, number_of}
+use Rattle.ax_format.specs.Bodies.{SpellsBody}
+use Rattle.ax_format.specs.InBounds.{IsWidth, FixedInBounds}
+use Rattle.ax_format.specs.Paths.{at}
+use Rattle.ax_format.specs.Reader.{fixed_value, members_value}
+use Rattle.ax_format.specs.Specification.{SpecTree, record_kind, record_slots}
+use Rattle.ax_format.specs.Tree.{FixedTree, MembersTree, MemberTree, named, spare, KindTree, extended, compound, SlotTree, SlotsTree, spare_slot, subitem, ValueTree, number, EntriesTree, marked}
+use Rattle.ax_format.specs.Widths.{width}
+use Rattle.ax_format.specs.declared.content.Content.{Content}
+use Rattle.ax_format.specs.declared.kind.LastPart.{LastPart}
+use Rattle.ax_held_kinds.specs.declared.lines.ShortElement.{ShortElement}
+use Rattle.ax_text_form.specs.Printing.{as_lines, Puts}
+use Rattle.ax_text_form.specs.ShowText.{number_line, element_line, count_line, fixed_lines, member_lines, members_lines, kind_lines, entries_lines, record_lines, records_lines}
+use Rattle.ax_text_form.specs.ValueText.{Texts, one_onto}
+use Rattle.ax_values.specs.SlotReading.{IsValueRead}
+
+-- ---- members
+
+abbrev pub member_width : MemberTree → ℕ
+member_width (named name f) = width f
+member_width (spare w) = w
+
+-- the value that the first bits spell
+abbrev pub member_value : MemberTree → List ℕ → ValueTree
+member_value (named name f) b = fixed_value f b
+member_value (spare w) b = number (number_of (take w b))
+
+abbrev pub MemberInBounds : MemberTree → Type 0
+MemberInBounds (named name f) = FixedInBounds f
+MemberInBounds (spare w) = IsWidth w
+
+-- ---- in the bits from bit `here` of the body on
+
+-- the line of an element of w bits was put
+abbrev pub ShowsElement : ℕ → Content → List ℕ → List ℕ → ℕ → List ℕ → List ℕ → Type 0
+ShowsElement w c path body here old new = Puts as_lines (one_onto (element_line w c path (number_of (take w (drop here (bits body)))))) old new
+
+-- that of a short element was put, under a path
+abbrev pub ShowsShort : ShortElement → List ℕ → List ℕ → ℕ → List ℕ → List ℕ → Type 0
+ShowsShort short path body here old new = ShowsElement short.width short.content.now (at path short.name) body here old new
+
+-- the line of w spare bits was put, under a path
+abbrev pub ShowsSpare : ℕ → List ℕ → List ℕ → ℕ → List ℕ → List ℕ → Type 0
+ShowsSpare w path body here old new = Puts as_lines (one_onto (number_line (at path (codes "spare")) (number_of (take w (drop here (bits body)))))) old new
+
+-- the lines of a fixed kind's value were put
+abbrev pub ShowsFixed : FixedTree → List ℕ → List ℕ → ℕ → List ℕ → List ℕ → Type 0
+ShowsFixed f path body here old new = Puts as_lines (fixed_lines f path (fixed_value f (drop here (bits body)))) old new
+
+-- the lines of a member were put
+abbrev pub ShowsMember : MemberTree → List ℕ → List ℕ → ℕ → List ℕ → List ℕ → Type 0
+ShowsMember m path body here old new = Puts as_lines (member_lines m path (member_value m (drop here (bits body)))) old new
+
+-- the lines of members were put
+abbrev pub ShowsMembers : MembersTree → List ℕ → List ℕ → ℕ → List ℕ → List ℕ → Type 0
+ShowsMembers ms path body here old new = Puts as_lines (members_lines ms path (members_value ms (drop here (bits body)))) old new
+
+-- ---- from octet `here` of the body up to octet `end`
+
+-- a value of this kind was read, and its lines were put
+pub record Shows (k : KindTree) (path body : List ℕ) (here end : ℕ) (old new : List ℕ) : Type 0 where
+  pub value : ValueTree
+  pub read : IsValueRead k body here end value
+  pub put : Puts as_lines (kind_lines k path value) old new
+
+-- a value was read, and its lines were put, without the first one, which says how many there are of what the word says
+pub record ShowsCounted (k : KindTree) (path word body : List ℕ) (here end : ℕ) (old new : List ℕ) (count : ℕ) : Type 0 where
+  pub value : ValueTree
+  pub read : IsValueRead k body here end value
+  pub later : Texts → Texts
+  pub put : Puts as_lines later old new
+  pub first : (rest : Texts) → kind_lines k path value rest ≡ count_line path word count ∷ later rest
+
+-- the same, of occurrences, of parts and of subitems
+abbrev pub ShowsRepeated : KindTree → List ℕ → List ℕ → ℕ → ℕ → List ℕ → List ℕ → ℕ → Type 0
+ShowsRepeated k path body here end old new count = ShowsCounted k path (codes "occurrences") body here end old new count
+
+abbrev pub ShowsParts : LastPart → List MembersTree → List ℕ → List ℕ → ℕ → ℕ → List ℕ → List ℕ → ℕ → Type 0
+ShowsParts last ps path body here end old new count = ShowsCounted (extended last ps) path (codes "parts") body here end old new count
+
+abbrev pub ShowsSubitems : SlotsTree → List ℕ → List ℕ → ℕ → ℕ → List ℕ → List ℕ → ℕ → Type 0
+ShowsSubitems ss path body here end old new count = ShowsCounted (compound ss) path (codes "subitems") body here end old new count
+
+-- ---- slots
+
+abbrev pub SlotShows : SlotTree → List ℕ → List ℕ → ℕ → ℕ → List ℕ → List ℕ → Type 0
+SlotShows spare_slot path body here end old new = Unit {0}
+SlotShows (subitem name k) path body here end old new = Shows k (at path name) body here end old new
+
+-- of a slot that is defined, the value was read and shown at the path of its name
+pub record IsSlotShown (slot : SlotTree) (path body : List ℕ) (here end : ℕ) (old new : List ℕ) : Type 0 where
+  pub shows : SlotShows slot path body here end old new
+
+-- ---- records
+
+-- the entries of a record were read, and these lines of them were put
+pub record ShowsEntries (spec : SpecTree) (lines : EntriesTree → Texts → Texts) (body : List ℕ) (here end : ℕ) (old new : List ℕ) : Type 0 where
+  pub entries : EntriesTree
+  pub read : IsValueRead (record_kind spec) body here end (marked entries)
+  pub put : Puts as_lines (lines entries) old new
+
+-- a record of that number was read and shown
+abbrev pub ShowsRecord : SpecTree → ℕ → List ℕ → ℕ → ℕ → List ℕ → List ℕ → Type 0
+ShowsRecord spec i body here end old new = ShowsEntries spec (record_lines spec i) body here end old new
+
+-- its items were, under a path
+abbrev pub ShowsItems : SpecTree → List ℕ → List ℕ → ℕ → ℕ → List ℕ → List ℕ → Type 0
+ShowsItems spec path body here end old new = ShowsEntries spec (entries_lines path 1 (record_slots spec)) body here end old new
+
+-- the body spells records, and their lines were put
+pub record ShowsRecords (spec : SpecTree) (body old new : List ℕ) : Type 0 where
+  pub records : List EntriesTree
+  pub spelled : SpellsBody spec records (bits body)
+  pub put : Puts as_lines (records_lines spec 0 records) old new

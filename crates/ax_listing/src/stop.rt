@@ -1,0 +1,63 @@
+//! Why a fixed kind isn't shown.
+ghost use Rattle.std.specs.Prelude.{◌≡◌, ◌+◌, ◌*◌, ◌≤◌, length, IfOk, IfErr, OnOk};
+ghost use Rattle.ax_format.specs.InBounds.{IsWidth};
+ghost use Rattle.ax_format.specs.Sizes.{longest_body};
+ghost use Rattle.ax_listing.specs.Stopped.{IsStopped, IsUnitStop};
+ghost use Rattle.ax_listing.specs.declared.stop.FixedStop.TheVariants as Stop;
+
+use ax_format::{BodyCause, BodyFault};
+use ax_values::DecodeError;
+use std::alloc::AllocError;
+
+/// Why a fixed kind isn't shown.
+#[derive(Clone, Copy)]
+pub(crate) enum FixedStop {
+    /// The body ends before its bits do.
+    RunsOut,
+    /// No memory was left for its lines.
+    OutOfMemory,
+}
+
+impl From<AllocError> for FixedStop {
+    ghost from_gives = { λ _ stop. stop ≡ Stop.OutOfMemory };
+
+    fn from(_error: AllocError) -> FixedStop {
+        FixedStop::OutOfMemory
+    }
+}
+
+impl FixedStop {
+    /// What it makes of a unit that begins at octet `at`: a unit runs out at its first bit.
+    pub(crate) fn of_unit(self, at: u32) -> DecodeError
+        requires { at ≤ longest_body }
+        ensures { IsUnitStop self at result }
+    {
+        match self {
+            FixedStop::RunsOut => DecodeError::Fault(BodyFault {
+                cause: BodyCause::RunsOut,
+                bit: 8 * at,
+            }),
+            FixedStop::OutOfMemory => DecodeError::OutOfMemory,
+        }
+    }
+}
+
+/// Moves a place in a body after `width` bits, and answers where these begin. RunsOut comes where the body ends before they do:
+/// judged element by element, so the width of a group isn't summed up before it is shown.
+#[inline(always)]
+pub(crate) fn pass(body: &[u8], at: &mut u32, width: u32) -> Result<u32, FixedStop>
+    requires width { IsWidth width }
+    requires body { length body.now ≤ longest_body }
+    requires at { at.old ≤ 8 * length body.now }
+    ensures begin { IfOk result (λ begin. begin ≡ at.old) }
+    ensures at { OnOk result (at.new ≡ at.old + width) }
+    ensures within { OnOk result (at.new ≤ 8 * length body.now) }
+    ensures stop { IfErr result (IsStopped body.now at.old width) }
+{
+    let begin = *at;
+    if begin + width > 8 * body.len() as u32 {
+        return Err(FixedStop::RunsOut);
+    }
+    *at = begin + width;
+    Ok(begin)
+}

@@ -1,9 +1,0 @@
-use Rattle.std.proofs.Common.{◌∙◌, ◌++◌, ap, decimal}
-use Rattle.ax_octets.proofs.Places.{Placed-then, Placed-view}
-use Rattle.ax_octets.proofs.octets.Octets.number_and_literal.Goals as goal
-
-pub returns : goal.returns
-returns c =
-    let view = c.as_mut_slice-area.ensures in
-    Placed-view _ _ (c.make_room.ensures.stays ∙ c.self.view_is) view.value view.len (Placed-then c.place_decimal-at.ensures.digits c.place_some-self-inside.ensures)
-    ∙ ap (λ xs. c.args.self.now ++ (decimal c.args.number ++ xs)) c.literal.view_is

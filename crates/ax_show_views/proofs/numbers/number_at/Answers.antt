@@ -1,6 +1,0 @@
-use Rattle.ax_bits.specs.Bits.{bits}
-use Rattle.ax_show_views.proofs.Members.{number_is}
-use Rattle.ax_show_views.proofs.numbers.number_at.Goals as goal
-
-pub returns-clause-value : goal.returns-clause-value
-returns-clause-value c = number_is (bits c.args.body.now) c.args.at c.args.width c.short_bits_at.result c.short_bits_at.ensures.below c.short_bits_at.ensures.number

@@ -1,7 +1,0 @@
-use Rattle.ax_blocks.specs.Reader.{raw_tree}
-use Rattle.ax_format.specs.Plain.{catalogue_tree}
-use Rattle.ax_show_views.proofs.Blocks.{listed_taken}
-use Rattle.ax_show_views.proofs.work.ShowViewsBlockWork.take.Goals as goal
-
-pub returns-in-Ok-clause-takes : goal.returns-in-Ok-clause-takes
-returns-in-Ok-clause-takes g c = listed_taken (catalogue_tree c.args.self.now.catalogue.now) c.args.number (raw_tree c.args.raw.now) _ _ _ c.list_block.new.lister.out _ _ c.in-Ok.ensures.octets c.listing.ensures c.write_piece.ensures

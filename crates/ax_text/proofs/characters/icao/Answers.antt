@@ -1,5 +1,0 @@
-use Rattle.ax_text.proofs.SixBits.{character_at}
-use Rattle.ax_text.proofs.characters.icao.Goals as goal
-
-pub returns : goal.returns
-returns c = character_at c.args.piece c.requires

@@ -1,7 +1,0 @@
-use Rattle.std.proofs.Common.{codes, refl}
-use Rattle.ax_text.proofs.Pieces.{last_put, spare_put}
-use Rattle.ax_text.proofs.lister.Lister.spare_under.Goals as goal
-
-pub returns : goal.returns
-returns c =
-    last_put c.octet.result c.octet.ensures (λ h. spare_put c.args.self.now.out c.named_number.new.self c.octet.new.self.out c.args.path.now (codes "spare\0\0\0\0\0\0\0\0\0\0\0") 5 c.args.number refl c.in_ok-named_number.ensures h)

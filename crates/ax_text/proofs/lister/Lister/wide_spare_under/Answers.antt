@@ -1,5 +1,0 @@
-use Rattle.ax_text.proofs.Pieces.{last_put, wide_spare_put}
-use Rattle.ax_text.proofs.lister.Lister.wide_spare_under.Goals as goal
-
-pub returns : goal.returns
-returns c = last_put c.octet.result c.octet.ensures (λ h. wide_spare_put _ _ _ _ _ c.args.path.now c.args.number c.in_ok-path.ensures c.in_ok-text3.ensures c.in_ok-decimal.ensures h)

@@ -1,0 +1,7 @@
+use Rattle.std.proofs.Common.{codes}
+use Rattle.ax_text_form.specs.Remarks.{characters}
+use Rattle.ax_text_form.proofs.Pieces.{last_put, three_pieces}
+use Rattle.ax_text_form.proofs.lister.Lister.characters.Goals as goal
+
+pub returns : goal.returns
+returns c = last_put c.octet.result c.octet.ensures (λ h. three_pieces c.args.self.now.out c.octets.new.self.out c.each_character.new.self.out c.octet.new.self.out (codes " \"") (characters c.args.alphabet c.args.width c.args.number) (codes "\"") c.in_ok-octets.ensures c.in_ok-each_character.ensures h)

@@ -1,0 +1,12 @@
+pub mod ValueText
+pub mod BlockText
+pub mod Printing
+pub mod Slots
+pub mod Names
+pub mod Readable
+pub mod Tokens
+pub mod Remarks
+pub mod FractionEnds
+pub mod ShowText
+pub mod Listable
+pub mod CatalogueBlocks

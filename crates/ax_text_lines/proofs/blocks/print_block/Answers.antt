@@ -1,0 +1,12 @@
+use Rattle.ax_format.specs.Plain.{spec_tree}
+use Rattle.ax_text_form.proofs.BlockWays.{read_line}
+use Rattle.ax_text_lines.proofs.blocks.print_block.Goals as goal
+
+pub returns-clause-printed : goal.returns-clause-printed
+returns-clause-printed c =
+    let spec = spec_tree c.args.items.now in
+    let body = c.in_ok-print_body.ensures.records in record {
+      records = body.records;
+      spelled = body.spelled;
+      is = read_line spec c.args.raw.now.category body.records c.begin.new.self c.category.new.self c.open.new.self c.print_body.new.line c.close.new.self c.end.new.self c.in_ok-begin.ensures c.in_ok-category.ensures c.in_ok-open.ensures body.put c.in_ok-close.ensures c.in_ok-end.ensures;
+    }

@@ -1,0 +1,15 @@
+use Rattle.std.proofs.Common.{drop}
+use Rattle.std.proofs.lemmas.Result.{on_ok_weaker}
+use Rattle.ax_bits.specs.Bits.{bits}
+use Rattle.ax_format.specs.Plain.{part_tree}
+use Rattle.ax_format.specs.Reader.{members_value}
+use Rattle.ax_text_form.proofs.KindWays.{part_put}
+use Rattle.ax_text_lines.proofs.fixed.print_part.Goals as goal
+
+pub returns-clause-text : goal.returns-clause-text
+returns-clause-text c =
+    let p = part_tree c.args.part.now in
+    on_ok_weaker c.close.result (part_put p (members_value p (drop c.args.at.now (bits c.args.body.now))) c.args.line.now c.text.new.self c.open.new.self c.print_members.new.line c.close.new.self c.in_ok-text.ensures c.in_ok-open.ensures c.in_ok-print_members.ensures.text) c.close.ensures
+
+pub returns-clause-at : goal.returns-clause-at
+returns-clause-at c = on_ok_weaker c.close.result (λ _. c.in_ok-print_members.ensures.at) c.close.ensures

@@ -1,5 +1,0 @@
-use Rattle.ax_text_views.proofs.DraftPieces.{MembersDrafted}
-use Rattle.ax_text_views.proofs.drafting.+add_fixed.Given as goal
-
-abbrev pub invariant-add_members-loop-member : goal.invariant-add_members-loop-member
-invariant-add_members-loop-member l = MembersDrafted l.members l.member-index l.fn.draft l.draft

@@ -1,5 +1,0 @@
-use Rattle.ax_text_views.proofs.Nested.{MembersNest}
-use Rattle.ax_text_views.proofs.nesting.+fixed_nests.Given as goal
-
-abbrev pub invariant-members_nest-loop-member : goal.invariant-members_nest-loop-member
-invariant-members_nest-loop-member l = MembersNest l.most l.members l.member-index

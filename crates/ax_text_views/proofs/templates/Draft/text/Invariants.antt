@@ -1,5 +1,0 @@
-use Rattle.ax_text_views.proofs.DraftPieces.{TextDrafted}
-use Rattle.ax_text_views.proofs.templates.Draft.text.Given as goal
-
-abbrev pub invariant-loop-octet : goal.invariant-loop-octet
-invariant-loop-octet l = TextDrafted l.text l.octet-index l.fn.self l.self

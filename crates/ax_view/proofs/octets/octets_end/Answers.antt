@@ -1,8 +1,0 @@
-use Rattle.std.proofs.Common.{◌-◌, get_or, arith, refl}
-use Rattle.ax_view.proofs.NodeKinds.{octets_walk}
-use Rattle.ax_view.proofs.octets.octets_end.Goals as goal
-
-pub returns-then-run_octets-body : goal.returns-then-run_octets-body
-returns-then-run_octets-body c = λ least.
-    octets_walk c.args.nodes.now c.args.link c.args.body.now c.args.at (get_or c.args.octets.now (c.args.link - 1) 0) least c.requires.table c.requires.link.0 c.requires.link.1 c.requires.bounds (omega arith) (omega arith)
-    c.args.octets.now c.requires.octets refl

@@ -1,5 +1,0 @@
-use Rattle.ax_view.proofs.Spelled.{record_spelled}
-use Rattle.ax_view.proofs.record.RecordView.octets.Goals as goal
-
-pub returns-clause-spelled : goal.returns-clause-spelled
-returns-clause-spelled c = record_spelled c.args.self.now.codec.now c.args.self.now.body.now c.args.self.now.record_octets

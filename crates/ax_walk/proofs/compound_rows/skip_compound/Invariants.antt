@@ -1,0 +1,17 @@
+use Rattle.std.proofs.Common.{◌≡◌, ℕ, ◌+◌, ◌-◌, ◌*◌, ◌%◌, ◌<◌, ◌≤◌, length, get_or, IsTrue}
+use Rattle.ax_walk.specs.Rows.{HaveRows}
+use Rattle.ax_walk.proofs.SkipSteps.{FieldSkips}
+use Rattle.ax_walk.proofs.compound_rows.skip_compound.Given as goal
+
+abbrev pub invariant-loop-count : goal.invariant-loop-count
+invariant-loop-count l = record {
+  within : l.at + l.count ≤ length l.body;
+  goes_on : (j : ℕ) → j < l.count → get_or l.body (l.at + j) 0 % 2 ≡ 1;
+  most : l.skip ≤ 4294967295 * l.count;
+  rows : HaveRows l.octets l.slots l.body l.at l.count;
+  skips : FieldSkips l.nodes l.body l.slots l.at l.count l.skip;
+  falls : IsTrue l.notes.least → IsTrue l.fn.notes.least;
+}
+
+abbrev pub decreases-loop-count : goal.decreases-loop-count
+decreases-loop-count l = length l.body - l.count

@@ -1,0 +1,13 @@
+pub mod InPlace
+pub mod Left
+pub mod Noted
+pub mod Pieces
+pub mod Plain
+pub mod Placing
+pub mod RecordsAt
+pub mod Rows
+pub mod Shown
+pub mod Spots
+pub mod Values
+pub mod Views
+pub mod Walking

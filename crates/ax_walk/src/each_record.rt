@@ -1,0 +1,105 @@
+//! The next record of a body.
+ghost use Rattle.std.specs.Prelude.{◌≡◌, ◌≤◌, length, map, IfSome, IfNone};
+ghost use Rattle.std.specs.Iterator.{YieldsFirstBy, item_count};
+ghost use Rattle.ax_format.specs.Sizes.{longest_body};
+ghost use Rattle.ax_fspec.specs.Reading.{FailsAt, kind_read};
+ghost use Rattle.ax_rows.specs.Rows.{AreRows};
+ghost use Rattle.ax_codec.specs.Octets.{octets_of};
+ghost use Rattle.ax_codec.specs.Table.{record_kind_at};
+ghost use Rattle.ax_walk.specs.Left.{record_shown, records_left};
+ghost use Rattle.ax_walk.specs.Noted.{IsLeastRecord};
+ghost use Rattle.ax_walk.specs.RecordsAt.{IsRecordAt, IsNoRecord};
+
+use crate::notes::Notes;
+use crate::octets::walk_with;
+use crate::record::RecordView;
+use crate::records::Records;
+use crate::windows::octets_from;
+use ax_codec::Codec;
+use ax_rows::Rows;
+
+/// The record that begins at octet `at`, and the octet after it. None comes exactly where none can be read there.
+pub fn record_at<'c, 'a>(
+    codec: &'c Codec,
+    body: &'a [u8],
+    at: u32,
+) -> Option<(RecordView<'c, 'a>, u32)>
+    requires body { length body.now ≤ longest_body }
+    requires at { at ≤ length body.now }
+    ensures some { IfSome result (λ r. IsRecordAt codec.now body.now at r.1 r.0.body.now) }
+    ensures codec { IfSome result (λ r. r.0.codec.now ≡ codec.now) }
+    ensures none { IfNone result (IsNoRecord codec.now body.now at) }
+{
+    let mut notes = Notes::new();
+    record_noted(codec, body, at, &mut notes)
+}
+
+/// The same, and what the walk over the record noted: the fault where none can be read there; else, in notes that were new,
+/// whether its octets are its canonical spelling.
+pub fn record_noted<'c, 'a>(
+    codec: &'c Codec,
+    body: &'a [u8],
+    at: u32,
+    notes: &mut Notes,
+) -> Option<(RecordView<'c, 'a>, u32)>
+    requires body { length body.now ≤ longest_body }
+    requires at { at ≤ length body.now }
+    ensures some { IfSome result (λ r. IsRecordAt codec.now body.now at r.1 r.0.body.now) }
+    ensures codec { IfSome result (λ r. r.0.codec.now ≡ codec.now) }
+    ensures least { IfSome result (λ r. IsLeastRecord codec.now r.0.body.now notes.new.least) }
+    ensures fault { IfNone result (FailsAt (kind_read (record_kind_at codec.now.nodes codec.now.slots) body.now at) at notes.new.fault) }
+{
+    let rows = codec.nodes.rows_for(codec.slots.as_slice());
+    record_by_rows(codec, rows, body, at, notes)
+}
+
+/// The same, with the rows of the codec's records, if there are some: a loop over records looks for them once.
+#[inline(always)]
+pub fn record_by_rows<'c, 'a>(
+    codec: &'c Codec,
+    rows: Option<Rows<'_>>,
+    body: &'a [u8],
+    at: u32,
+    notes: &mut Notes,
+) -> Option<(RecordView<'c, 'a>, u32)>
+    requires rows { IfSome rows (λ rows. AreRows (map octets_of codec.now.nodes) codec.now.slots rows.start.now rows.steps.now) }
+    requires body { length body.now ≤ longest_body }
+    requires at { at ≤ length body.now }
+    ensures some { IfSome result (λ r. IsRecordAt codec.now body.now at r.1 r.0.body.now) }
+    ensures codec { IfSome result (λ r. r.0.codec.now ≡ codec.now) }
+    ensures least { IfSome result (λ r. IsLeastRecord codec.now r.0.body.now notes.new.least) }
+    ensures fault { IfNone result (FailsAt (kind_read (record_kind_at codec.now.nodes codec.now.slots) body.now at) at notes.new.fault) }
+{
+    let Some(end) = walk_with(codec, rows, body, at, notes) else {
+        return None;
+    };
+    let record = RecordView {
+        codec,
+        body: &body[at as usize..end as usize],
+    };
+    Some((record, end))
+}
+
+impl<'c, 'a> Iterator for Records<'c, 'a> {
+    type Item = RecordView<'c, 'a>;
+
+    ghost next_gives = { YieldsFirstBy record_shown records_left };
+
+    ghost remaining = { item_count records_left };
+
+    #[inline]
+    fn next(&mut self) -> Option<RecordView<'c, 'a>> {
+        if self.count == 0 {
+            return None;
+        }
+        let Some((record, end)) = record_at(self.codec, self.left, 0) else {
+            return None;
+        };
+        *self = Records {
+            codec: self.codec,
+            count: self.count - 1,
+            left: octets_from(self.left, end),
+        };
+        Some(record)
+    }
+}

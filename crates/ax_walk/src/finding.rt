@@ -1,0 +1,192 @@
+//! Values of marked slots, found after those of the slots before.
+ghost use Rattle.std.specs.Prelude.{◌≡◌, ◌+◌, ◌-◌, ◌*◌, ◌/◌, ◌<◌, ◌≤◌, false, length, get_or, IfSome, IfNone, IsTrue, option_map, option_and_then};
+ghost use Rattle.ax_bits.specs.Bits.{AreBits};
+ghost use Rattle.ax_fspec.specs.Marks.{seven};
+ghost use Rattle.ax_fspec.specs.declared.mask.SlotMask.{SlotMask};
+ghost use Rattle.ax_format.specs.Canonical.{canon};
+ghost use Rattle.ax_format.specs.InBounds.{InBounds, SlotsInBounds};
+ghost use Rattle.ax_format.specs.Presence.{NoneUndefined, octets_needed};
+ghost use Rattle.ax_format.specs.Sizes.{longest_body};
+ghost use Rattle.ax_format.specs.Tree as Tree;
+ghost use Rattle.ax_codec.specs.Meaning.{meanings, linked_slots};
+ghost use Rattle.ax_codec.specs.Table.{IsTable, SlotLinksWithin, kind_at, record_kind_at};
+ghost use Rattle.ax_fspec.specs.Reading.{FailsAt, IsMaskOf, kind_read, entries_at};
+ghost use Rattle.ax_format.specs.At.{slot_value, number_at};
+ghost use Rattle.ax_walk.specs.InPlace.{EndsField, FollowsEntries, StandsInPlace};
+ghost use Rattle.ax_walk.specs.Placing.{IsMarkedItem};
+ghost use Rattle.ax_walk.specs.Rows.{IsField};
+ghost use Rattle.ax_walk.specs.Shown.{item_value, IsOfSlot};
+ghost use Rattle.ax_walk.specs.Values.{IsGot, IsOne, entries_found, value_in, entries_in, SpellsAny};
+ghost use Rattle.ax_walk.specs.Walking.{Walks};
+
+use crate::by_rows::field_octets;
+use crate::item::ItemView;
+use crate::notes::Notes;
+use crate::octets::walk_item;
+use ax_codec::Codec;
+use ax_fspec::{Presence, SlotMask, read_presence};
+
+/// The last slot of the first presence octet.
+const EARLY: u32 = 7;
+
+/// The value of a slot in octets that spell a value of these slots, in its own place there: after the presence field and
+/// the values of the marked slots before. None comes exactly where the slot isn't marked.
+#[inline]
+pub(crate) fn find<'c, 'a>(
+    codec: &'c Codec,
+    mask: &SlotMask,
+    slots: &[u32],
+    body: &'a [u8],
+    slot: u32,
+) -> Option<ItemView<'c, 'a>>
+    requires links { SlotLinksWithin (length codec.now.nodes) slots.now }
+    requires mask { IsMaskOf (linked_slots (meanings codec.now.nodes) slots.now) mask.now }
+    requires bounds { InBounds (record_kind_at codec.now.nodes slots.now) }
+    requires one { IsOne (record_kind_at codec.now.nodes slots.now) body.now }
+    ensures value { option_map item_value result ≡ slot_value slot (entries_in (value_in (record_kind_at codec.now.nodes slots.now) body.now)) }
+    ensures place { IfSome result (IsOfSlot codec.now slots.now slot) }
+    ensures window { IfSome result (λ item. StandsInPlace codec.now.nodes slots.now slot body.now item.body.now) }
+{
+    if slot <= EARLY {
+        if let Some(at) = field_octets(body, 0, mask.count) {
+            return find_early(codec, slots, body, at, slot);
+        }
+    }
+    let mut marked = Presence::empty();
+    match read_presence(mask, body, 0, &mut marked) {
+        Ok(here) => find_marked(codec, slots, marked, body, here, slot),
+        Err(_) => None,
+    }
+}
+
+/// Whether the first presence octet marks a slot from 1 to 7.
+#[inline(always)]
+fn marks_slot(octet: u8, slot: u32) -> bool
+    requires { (1 ≤ slot) × (slot ≤ 7) }
+    ensures marked { IsTrue result → get_or (seven (octet / 2)) (slot - 1) 0 ≡ 1 }
+    ensures unmarked { result ≡ false → get_or (seven (octet / 2)) (slot - 1) 0 ≡ 0 }
+{
+    octet >> (8 - slot) & 1 == 1
+}
+
+/// The same for a slot of the first presence octet, where the first item begins at octet `at`: that octet alone is looked at, and it
+/// isn't judged again.
+#[inline]
+fn find_early<'c, 'a>(
+    codec: &'c Codec,
+    slots: &[u32],
+    body: &'a [u8],
+    at: u32,
+    slot: u32,
+) -> Option<ItemView<'c, 'a>>
+    requires links { SlotLinksWithin (length codec.now.nodes) slots.now }
+    requires bounds { InBounds (record_kind_at codec.now.nodes slots.now) }
+    requires one { IsOne (record_kind_at codec.now.nodes slots.now) body.now }
+    requires field { IsField body.now 0 at }
+    requires few { at ≤ octets_needed (length slots.now) }
+    requires slot { slot ≤ 7 }
+    ensures value { option_map item_value result ≡ slot_value slot (entries_in (value_in (record_kind_at codec.now.nodes slots.now) body.now)) }
+    ensures place { IfSome result (IsOfSlot codec.now slots.now slot) }
+    ensures window { IfSome result (λ item. StandsInPlace codec.now.nodes slots.now slot body.now item.body.now) }
+{
+    let octet = body[0];
+    let mut notes = Notes::new();
+    let mut here = at;
+    for next in 1..slot + 1 {
+        if !marks_slot(octet, next) {
+            continue;
+        }
+        let link = slots[next as usize - 1];
+        let end = walk_of(codec, link, body, here, &mut notes)?;
+        if next == slot {
+            return Some(ItemView {
+                codec,
+                link,
+                by_fx: false,
+                body: &body[here as usize..end as usize],
+            });
+        }
+        here = end;
+    }
+    None
+}
+
+/// The item of a slot of a record whose presence field was read: it marks these slots, and the first of their items begins at
+/// octet `at`. The items before it alone are walked over. None comes where the slot isn't marked, and else only where the items
+/// can't all be read.
+#[inline(always)]
+pub fn marked_item<'c, 'a>(
+    codec: &'c Codec,
+    marked: Presence,
+    body: &'a [u8],
+    at: u32,
+    slot: u32,
+) -> Option<ItemView<'c, 'a>>
+    requires body { length body.now ≤ longest_body }
+    requires field { EndsField codec.now body.now at marked }
+    ensures item { IsMarkedItem codec.now marked body.now at slot result }
+    ensures place { IfSome result (IsOfSlot codec.now codec.now.slots slot) }
+{
+    find_marked(codec, codec.slots.as_slice(), marked, body, at, slot)
+}
+
+/// The same in the octets after the presence field of a value of these slots.
+#[inline(always)]
+fn find_marked<'c, 'a>(
+    codec: &'c Codec,
+    slots: &[u32],
+    marked: Presence,
+    body: &'a [u8],
+    at: u32,
+    slot: u32,
+) -> Option<ItemView<'c, 'a>>
+    requires links { SlotLinksWithin (length codec.now.nodes) slots.now }
+    requires bounds { SlotsInBounds (Tree.slots_of (linked_slots (meanings codec.now.nodes) slots.now)) }
+    requires marks { AreBits marked }
+    requires clear { NoneUndefined (Tree.defined_slots (Tree.slots_of (linked_slots (meanings codec.now.nodes) slots.now))) marked }
+    requires body { length body.now ≤ longest_body }
+    requires at { at ≤ length body.now }
+    ensures value { IsGot (entries_at (Tree.slots_of (linked_slots (meanings codec.now.nodes) slots.now)) marked body.now at)
+        → option_map item_value result ≡ slot_value slot (entries_found (entries_at (Tree.slots_of (linked_slots (meanings codec.now.nodes) slots.now)) marked body.now at)) }
+    ensures place { IfSome result (IsOfSlot codec.now slots.now slot) }
+    ensures window { IsGot (entries_at (Tree.slots_of (linked_slots (meanings codec.now.nodes) slots.now)) marked body.now at)
+        → IfSome result (λ item. FollowsEntries codec.now.nodes slots.now slot (entries_found (entries_at (Tree.slots_of (linked_slots (meanings codec.now.nodes) slots.now)) marked body.now at)) body.now at item.body.now) }
+{
+    let mut notes = Notes::new();
+    let mut left = marked;
+    let mut here = at;
+    while let Some(next) = left.take_first() {
+        let link = slots[next as usize - 1];
+        let end = walk_of(codec, link, body, here, &mut notes)?;
+        if next == slot {
+            return Some(ItemView {
+                codec,
+                link,
+                by_fx: false,
+                body: &body[here as usize..end as usize],
+            });
+        }
+        here = end;
+    }
+    None
+}
+
+/// The same as `walk`, by a codec's nodes.
+#[inline]
+pub(crate) fn walk_of(
+    codec: &Codec,
+    link: u32,
+    body: &[u8],
+    at: u32,
+    notes: &mut Notes,
+) -> Option<u32>
+    requires link { (0 < link) × (link ≤ length codec.now.nodes) }
+    requires bounds { InBounds (kind_at codec.now.nodes link) }
+    requires body { length body.now ≤ longest_body }
+    requires at { at ≤ length body.now }
+    ensures end { IfSome result (λ end. Walks (canon (kind_at codec.now.nodes link)) (kind_read (kind_at codec.now.nodes link) body.now at) body.now at end notes.new.least) }
+    ensures fault { IfNone result (FailsAt (kind_read (kind_at codec.now.nodes link) body.now at) at notes.new.fault) }
+{
+    let octets = codec.nodes.octets();
+    walk_item(codec.nodes.as_slice(), octets, link, body, at, notes)
+}

@@ -17,12 +17,12 @@ ghost use Rattle.ax_walk.specs.Placing.{IsMarkedItem};
 ghost use Rattle.ax_walk.specs.Rows.{IsField};
 ghost use Rattle.ax_walk.specs.Shown.{item_value, IsOfSlot};
 ghost use Rattle.ax_walk.specs.Values.{IsGot, IsOne, entries_found, value_in, entries_in, SpellsAny};
-ghost use Rattle.ax_walk.specs.Walking.{Walks};
+ghost use Rattle.ax_walk.specs.Walking.{Walks, WalksKind};
 
 use crate::by_rows::field_octets;
 use crate::item::ItemView;
 use crate::notes::Notes;
-use crate::octets::walk_item;
+use crate::octets::{octets_end, walk_node};
 use ax_codec::Codec;
 use ax_fspec::{Presence, SlotMask, read_presence};
 
@@ -171,8 +171,22 @@ fn find_marked<'c, 'a>(
     None
 }
 
-/// The same as `walk`, by a codec's nodes.
-#[inline]
+/// The octet after an item, by its node. It stands apart, so that a loop over items has a call only for those of other octets than
+/// fixed ones.
+#[inline(never)]
+fn walk_apart(codec: &Codec, link: u32, body: &[u8], at: u32, notes: &mut Notes) -> Option<u32>
+    requires link { (0 < link) × (link ≤ length codec.now.nodes) }
+    requires bounds { InBounds (kind_at codec.now.nodes link) }
+    requires body { length body.now ≤ longest_body }
+    requires at { at ≤ length body.now }
+    ensures end { IfSome result (λ end. WalksKind (kind_at codec.now.nodes link) body.now at end notes.new.least) }
+    ensures fault { IfNone result (FailsAt (kind_read (kind_at codec.now.nodes link) body.now at) at notes.new.fault) }
+{
+    walk_node(codec.nodes.as_slice(), link, body, at, notes)
+}
+
+/// The same as `walk`, by a codec's nodes: over an item of fixed octets without a call.
+#[inline(always)]
 pub(crate) fn walk_of(
     codec: &Codec,
     link: u32,
@@ -188,5 +202,8 @@ pub(crate) fn walk_of(
     ensures fault { IfNone result (FailsAt (kind_read (kind_at codec.now.nodes link) body.now at) at notes.new.fault) }
 {
     let octets = codec.nodes.octets();
-    walk_item(codec.nodes.as_slice(), octets, link, body, at, notes)
+    if let Some(end) = octets_end(codec.nodes.as_slice(), octets, link, body, at) {
+        return Some(end);
+    }
+    walk_apart(codec, link, body, at, notes)
 }

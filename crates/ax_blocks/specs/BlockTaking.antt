@@ -5,6 +5,8 @@ use Rattle.ax_format.specs.Ends.{RawSpells, RawFails}
 use Rattle.ax_format.specs.Framing.{RawTree}
 use Rattle.ax_format.specs.declared.fault.BodyCause.{BodyCause}
 use Rattle.ax_endpoints.specs.Changes.{SinkChange, Gains, GainsNothing, GainsPart}
+use Rattle.ax_format.specs.declared.record.RawBlock.{RawBlock}
+use Rattle.ax_blocks.specs.Reader.{raw_tree}
 use Rattle.ax_blocks.specs.Commands.{BlockCommand, gives, too_long}
 use Rattle.ax_blocks.specs.declared.work.WorkStop.{WorkStop}
 use Rattle.ax_blocks.specs.declared.work.WorkStop.TheVariants.{Fault, TooLong, WriteFault, ReportFault, OutOfMemory}
@@ -87,6 +89,10 @@ pub record Takes (c : BlockCommand) (number : ℕ) (raw : RawTree) (o r : SinkCh
   pub report_later : r.faults ≤ r.faults'
   pub report_once : r.faults' ≤ r.faults + 1
   pub report_quiet : UnlessReportFault result (r.faults' ≡ r.faults)
+
+-- the same of a block as it was read
+abbrev pub TakesRaw : BlockCommand → ℕ → RawBlock → SinkChange → SinkChange → Result Unit WorkStop → Type 0
+TakesRaw c number raw o r result = Takes c number (raw_tree raw) o r result
 
 -- ---- pieces of the output
 

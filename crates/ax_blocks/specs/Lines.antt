@@ -17,3 +17,7 @@ cause_name BadExplicitLength = codes "BadExplicitLength"
 
 abbrev pub fault_line : InputFault → List ℕ
 fault_line fault = numbered (codes "refused block ") fault.block ++ (numbered (codes " bit ") fault.bit ++ (codes " " ++ (cause_name fault.cause ++ codes "\n")))
+
+-- its bit and its cause, up to the end of its line
+abbrev pub fault_end : InputFault → List ℕ
+fault_end fault = numbered (codes " bit ") fault.bit ++ (codes " " ++ (cause_name fault.cause ++ codes "\n"))

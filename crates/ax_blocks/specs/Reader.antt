@@ -8,6 +8,7 @@ use Rattle.ax_blocks.specs.declared.reader.EndedBlocks.TheVariants.{EndOfInput, 
 use Rattle.ax_format.specs.Blocks.{IsFramed}
 use Rattle.ax_format.specs.Framing.{RawTree, FramingEnd, whole, input_too_long, ends_in_header, bad_len, ends_in_block, len_of, block, end, IsJustNext}
 use Rattle.ax_format.specs.declared.record.RawBlock.{RawBlock}
+use Rattle.ax_endpoints.specs.Changes.{SourceChange}
 use Rattle.ax_endpoints.specs.Told.{IsAtEnd}
 
 -- a reader: the limit on its input, the count of octets of the blocks that it gave, and what it answers from now on, once
@@ -118,3 +119,17 @@ pub record HoldsBlock (limit given : ℕ) (left left' : Option (List ℕ)) (take
   pub most : n ≤ length buffer
   pub within : given + n ≤ limit
   pub len : len_of (take n buffer) ≡ n
+
+-- ---- of a source that is told before and after
+
+-- the reader's next block was taken from it, and no other octets
+abbrev pub GivesNext : ReaderState → SourceChange → RawBlock → Type 0
+GivesNext reader i raw = GivesBlock reader.limit reader.given i.left i.left' i.taken i.taken' (raw_tree raw)
+
+-- the octets that show an end were taken from it
+abbrev pub ShowsEnd : ReaderState → SourceChange → FramingEnd → Type 0
+ShowsEnd reader i e = FindsEnd reader.limit reader.given i.left i.left' i.taken i.taken' e
+
+-- some octets of a block were taken from it
+abbrev pub StopsInBlock : ReaderState → SourceChange → Type 0
+StopsInBlock reader i = StopsUnfinished reader.limit reader.given i.left i.left' i.taken i.taken'

@@ -4,6 +4,7 @@ use Rattle.ax_bits.specs.Bits.{AreOctets}
 use Rattle.ax_blocks.specs.declared.next_error.NextError.{NextError}
 use Rattle.ax_blocks.specs.declared.next_error.NextError.TheVariants.{InputTooLong, ReadFault}
 use Rattle.ax_format.specs.Framing.{len_of}
+use Rattle.ax_endpoints.specs.Changes.{SourceChange}
 use Rattle.ax_endpoints.specs.Told.{with_front, IsAtEnd}
 
 -- these octets were taken: they stood in front of what is left now, where that is told, and the number of octets taken rose
@@ -51,6 +52,10 @@ PartMeans left left' taken taken' buffer buffer' buffered needed room (Ok n) = P
 PartMeans left left' taken taken' buffer buffer' buffered needed room (Err InputTooLong) = PartPastRoom left left' taken taken' buffered needed room
 PartMeans left left' taken taken' buffer buffer' buffered needed room (Err ReadFault) = PartCut left left' taken taken' buffered needed room
 PartMeans left left' taken taken' buffer buffer' buffered needed room (Err _) = ⊥
+
+-- the same, of a source that is told before and after
+abbrev pub PartTells : SourceChange → List ℕ → List ℕ → ℕ → ℕ → ℕ → Result ℕ NextError → Type 0
+PartTells i buffer buffer' buffered needed room result = PartMeans i.left i.left' i.taken i.taken' buffer buffer' buffered needed room result
 
 abbrev pub OnPartFault : Result ℕ NextError → Type 0 → Type 0
 OnPartFault (Err ReadFault) P = P

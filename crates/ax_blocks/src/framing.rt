@@ -1,10 +1,11 @@
 //! The next block, taken into a buffer.
 ghost use Rattle.std.specs.Prelude.{◌≡◌, ◌+◌, ◌≤◌, ◌<◌, length, take, IfOk, OnErr};
 ghost use Rattle.ax_blocks.specs.Reader.{OnBlock, OnEnd, OnReadFault, FindsEnd, StopsUnfinished, HoldsBlock};
-ghost use Rattle.ax_blocks.specs.Taking.{PartMeans, OnPartFault, UnlessReadFault};
+ghost use Rattle.ax_blocks.specs.Taking.{PartTells, OnPartFault, UnlessReadFault};
 ghost use Rattle.ax_format.specs.Blocks.{IsFramed};
 ghost use Rattle.ax_format.specs.Framing.{len_of};
 ghost use Rattle.ax_format.specs.Sizes.{longest_block};
+ghost use Rattle.ax_endpoints.specs.Changes.{source_change};
 ghost use Rattle.ax_endpoints.specs.Told.{Rose};
 
 use crate::next_error::NextError;
@@ -26,7 +27,7 @@ fn take_part<S: Source>(
     requires buffered { buffered < needed }
     requires fits { needed ≤ length buffer.old }
     requires in_room { buffered ≤ room }
-    ensures means { PartMeans (S.left source.old) (S.left source.new) (S.taken source.old) (S.taken source.new) buffer.old buffer.new buffered needed room result }
+    ensures means { PartTells (source_change S.Source source.old source.new) buffer.old buffer.new buffered needed room result }
     ensures rose { OnPartFault result (Rose (S.faults source.old) (S.faults source.new)) }
     ensures never_falls { S.faults source.old ≤ S.faults source.new }
     ensures once { S.faults source.new ≤ S.faults source.old + 1 }

@@ -2,7 +2,7 @@
 ghost use Rattle.std.specs.Prelude.{◌≡◌, ◌++◌, codes};
 ghost use Rattle.ax_endpoints.specs.Changes.{Wrote, sink_change};
 ghost use Rattle.ax_report.specs.Lines.{numbered};
-ghost use Rattle.ax_blocks.specs.Lines.{cause_name, fault_line};
+ghost use Rattle.ax_blocks.specs.Lines.{cause_name, fault_end, fault_line};
 
 use crate::end::{Cause, InputFault};
 use ax_endpoints::{Sink, SinkFailed};
@@ -33,7 +33,7 @@ fn write_cause<K: Sink>(sink: &mut K, cause: Cause) -> Result<(), SinkFailed>
 /// Writes the bit and the cause of a fault, up to the end of its line.
 #[tactic(auto, using(ax_endpoints::proofs::Pieces::pieces))]
 fn write_fault_end<K: Sink>(sink: &mut K, fault: InputFault) -> Result<(), SinkFailed>
-    ensures { Wrote (sink_change K.Sink sink.old sink.new) result (numbered (codes " bit ") fault.bit ++ (codes " " ++ (cause_name fault.cause ++ codes "\n"))) }
+    ensures { Wrote (sink_change K.Sink sink.old sink.new) result (fault_end fault) }
 {
     write_numbered(sink, b" bit ", fault.bit as u64)?;
     write_cause(sink, fault.cause)

@@ -42,8 +42,9 @@ impl BlockReader {
     ghost use Rattle.std.specs.Prelude.{◌≡◌, ◌+◌, ◌≤◌, ◌<◌, Some, None, IfOk, IfSome};
     ghost use Rattle.std.specs.Borrow.{sem};
     ghost use Rattle.std.specs.Io.BufRead.{Rests};
-    ghost use Rattle.ax_blocks.specs.Reader.{IsAfter, IsOpen, raw_tree, ended_by, OnBlock, OnEnd, OnTooLong, OnReadFault, GivesBlock, FindsEnd, StopsUnfinished};
+    ghost use Rattle.ax_blocks.specs.Reader.{IsAfter, IsOpen, ended_by, OnBlock, OnEnd, OnTooLong, OnReadFault, GivesNext, ShowsEnd, StopsInBlock};
     ghost use Rattle.ax_blocks.specs.Taking.{UnlessReadFault};
+    ghost use Rattle.ax_endpoints.specs.Changes.{source_change};
     ghost use Rattle.ax_endpoints.specs.Told.{Rose};
     ghost use Rattle.ax_blocks.specs.contracts.reader.BlockReader.{the_row};
 
@@ -85,10 +86,10 @@ impl BlockReader {
     ) -> Result<Option<RawBlock<'b>>, NextError>
         ensures* after { sem 𝓛 (Rests the_row self.entry (λ new. IsAfter self.old result new)) }
         ensures again { IfSome self.old.ended (λ ended. (ended_by result ≡ Some ended) × (source.new ≡ source.old)) }
-        ensures block { IsOpen self.old → OnBlock result (λ raw. GivesBlock self.old.limit self.old.given (S.left source.old) (S.left source.new) (S.taken source.old) (S.taken source.new) (raw_tree raw)) }
-        ensures end { IsOpen self.old → OnEnd result (FindsEnd self.old.limit self.old.given (S.left source.old) (S.left source.new) (S.taken source.old) (S.taken source.new)) }
+        ensures block { IsOpen self.old → OnBlock result (λ raw. GivesNext self.old (source_change S.Source source.old source.new) raw) }
+        ensures end { IsOpen self.old → OnEnd result (λ end. ShowsEnd self.old (source_change S.Source source.old source.new) end) }
         ensures past_limit { IsOpen self.old → OnTooLong result (self.old.limit + S.taken source.old < self.old.given + S.taken source.new) }
-        ensures fault { IsOpen self.old → OnReadFault result (StopsUnfinished self.old.limit self.old.given (S.left source.old) (S.left source.new) (S.taken source.old) (S.taken source.new)) }
+        ensures fault { IsOpen self.old → OnReadFault result (StopsInBlock self.old (source_change S.Source source.old source.new)) }
         ensures rose { IsOpen self.old → OnReadFault result (Rose (S.faults source.old) (S.faults source.new)) }
         ensures never_falls { S.faults source.old ≤ S.faults source.new }
         ensures once { S.faults source.new ≤ S.faults source.old + 1 }

@@ -5,7 +5,7 @@ ghost use Rattle.ax_blocks.specs.Reader.{raw_tree};
 ghost use Rattle.ax_format.specs.Framing.{RawTree};
 ghost use Rattle.ax_endpoints.specs.Changes.{sink_change};
 ghost use Rattle.ax_blocks.specs.Commands.{BlockCommand};
-ghost use Rattle.ax_blocks.specs.BlockTaking.{Takes, WritesOctets};
+ghost use Rattle.ax_blocks.specs.BlockTaking.{TakesRaw, WritesOctets};
 
 use ax_endpoints::{Sink, write_all_of};
 use ax_format::{BodyFault, RawBlock};
@@ -50,7 +50,7 @@ pub trait BlockWork {
         out: &mut K,
     ) -> Result<(), WorkStop>
         requires sound { sound self.old }
-        ensures takes { Takes (command self.old) number (raw_tree raw.now) (sink_change K.Sink out.old out.new) (sink_change R.Sink report.old report.new) result }
+        ensures takes { TakesRaw (command self.old) number raw.now (sink_change K.Sink out.old out.new) (sink_change R.Sink report.old report.new) result }
         ensures memory { IsErrOf result OutOfMemory → IsTrue takes_memory }
         ensures remembers { (first : Self) (raws : List RawTree) → remembers first self.old raws → remembers first self.new (raws ++ raw_tree raw.now ∷ []) }
         ensures same { command self.new ≡ command self.old }

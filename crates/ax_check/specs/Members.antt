@@ -1,6 +1,6 @@
 -- The flaws of one member, slot or item after others, and the names that those after it see.
 use Rattle.std.specs.Prelude.{ℕ, ◌+◌, ◌==◌, nat_lt, length, map, decimal, List, [], ◌∷◌, ◌++◌, codes, true, if◌then◌else◌}
-use Rattle.ax_format.specs.Flaws.{flaw_where, is_among, is_bad_width, is_no_multiple, is_too_wide, is_nothing, fixed_flaws, members_flaws, kind_flaws, uap_flaws}
+use Rattle.ax_format.specs.Flaws.{flaw_where, is_among, is_bad_width, is_no_multiple, is_too_wide, is_nothing, fixed_flaws, items_flaws, members_flaws, kind_flaws, uap_flaws}
 use Rattle.ax_format.specs.Paths.{at}
 use Rattle.ax_format.specs.Plain.{item_tree}
 use Rattle.ax_format.specs.Specification.{ItemTree}
@@ -68,3 +68,7 @@ item_names items = map (λ item. item.name) items
 abbrev pub uap_part_flaws : List ℕ → Spec → List Flaw
 uap_part_flaws path spec =
     flaw_where (length spec.uap == 0) Empty path ++ flaw_where (nat_lt 126 (length spec.uap)) TooManySlots path ++ uap_flaws path (map item_tree spec.items) [] spec.uap
+
+-- those of each item of a specification, then those of its UAP, below the path of its category
+abbrev pub lists_flaws : List ℕ → Spec → List Flaw
+lists_flaws path spec = items_flaws path [] (map item_tree spec.items) ++ uap_part_flaws (at path (codes "uap")) spec

@@ -3,7 +3,7 @@ ghost use Rattle.std.specs.Prelude.{◌≡◌, ◌∷◌, ◌++◌, ◌+◌, ◌
 ghost use Rattle.ax_format.specs.Flaws.{flaw_where, is_among, is_bad_width, is_bad_element_width, is_bad_scale, is_bad_string_width, is_no_multiple, is_too_wide, fixed_flaws, members_flaws, whole_flaws, parts_flaws, names_with};
 ghost use Rattle.ax_format.specs.Paths.{at};
 ghost use Rattle.ax_format.specs.Plain.{fixed_tree, member_tree, members_tree, part_tree};
-ghost use Rattle.ax_format.specs.Tree.{group};
+ghost use Rattle.ax_format.specs.Tree.{element, group};
 ghost use Rattle.ax_format.specs.Widths.{members_width};
 ghost use Rattle.ax_format.specs.declared.flaw.FlawKind.TheVariants.{BadWidth, BadScale, BadStringWidth};
 ghost use Rattle.ax_check.specs.Members.{member_flaws, with_member};
@@ -95,7 +95,7 @@ fn element_flaws(
     width: u32,
     content: &Content,
 ) -> Result<(), AllocError>
-    ensures { OnOk result (found.new ≡ found.old ++ (flaw_where (is_bad_element_width width content.now) BadWidth path.now ++ flaw_where (is_bad_scale content.now) BadScale path.now ++ flaw_where (is_bad_string_width width content.now) BadStringWidth path.now)) }
+    ensures { OnOk result (found.new ≡ found.old ++ fixed_flaws path.now (element width content.now)) }
 {
     let (bad_width, bad_scale) = (
         has_bad_element_width(width, content),

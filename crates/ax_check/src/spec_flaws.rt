@@ -4,7 +4,7 @@ ghost use Rattle.ax_format.specs.Flaws.{items_flaws};
 ghost use Rattle.ax_format.specs.OfCode.{spec_flaws};
 ghost use Rattle.ax_format.specs.Paths.{at};
 ghost use Rattle.ax_format.specs.Plain.{item_tree};
-ghost use Rattle.ax_check.specs.Members.{item_flaws, uap_slot_flaws, with_uap_slot, item_names, uap_part_flaws};
+ghost use Rattle.ax_check.specs.Members.{item_flaws, uap_slot_flaws, with_uap_slot, item_names, lists_flaws, uap_part_flaws};
 ghost use Rattle.ax_check.specs.Names.{listed, AreSame};
 
 use crate::fixed_flaws::{enter_at, note};
@@ -105,7 +105,7 @@ fn find_in_lists<'s>(
     spec: &'s Spec,
 ) -> Result<(), AllocError>
     requires { listed names.old.set ≡ [] }
-    ensures { OnOk result (found.new ≡ found.old ++ (items_flaws path.now [] (map item_tree spec.now.items) ++ uap_part_flaws (at path.now (codes "uap")) spec.now)) }
+    ensures { OnOk result (found.new ≡ found.old ++ lists_flaws path.now spec.now) }
 {
     find_in_items(alloc, found, path, names, &spec.items)?;
     let path = at_uap(alloc, path)?;

@@ -30,6 +30,10 @@ kind_name BadScale = codes "BadScale"
 kind_name BadStringWidth = codes "BadStringWidth"
 kind_name TooWide = codes "TooWide"
 
+-- the kind and the path of a flaw, up to the end of its line
+abbrev pub flaw_end : Flaw → List ℕ
+flaw_end flaw = (codes " " ++ kind_name flaw.kind) ++ (codes " " ++ (flaw.path ++ codes "\n"))
+
 abbrev pub flaw_line : ℕ → Flaw → List ℕ
 flaw_line file flaw = numbered (codes "flaw file ") file ++ ((codes " " ++ kind_name flaw.kind) ++ (codes " " ++ (flaw.path ++ codes "\n")))
 

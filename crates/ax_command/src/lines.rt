@@ -2,7 +2,7 @@
 ghost use Rattle.std.specs.Prelude.{◌≡◌, ◌++◌, codes};
 ghost use Rattle.ax_endpoints.specs.Changes.{Wrote, sink_change};
 ghost use Rattle.ax_format.specs.Paths.{three_digits};
-ghost use Rattle.ax_command.specs.Lines.{kind_name, flaw_line, flaw_lines, fault_lines, filter_line, text_line, lines_of};
+ghost use Rattle.ax_command.specs.Lines.{kind_name, flaw_end, flaw_line, flaw_lines, fault_lines, filter_line, text_line, lines_of};
 
 use crate::outcome::Outcome;
 use ax_blocks::write_fault_line;
@@ -50,7 +50,7 @@ fn write_path<K: Sink>(sink: &mut K, path: &Text) -> Result<(), SinkFailed>
 /// Writes the kind and the path of a flaw, up to the end of its line.
 #[tactic(auto, using(ax_endpoints::proofs::Pieces::pieces))]
 fn write_flaw_end<K: Sink>(sink: &mut K, flaw: &Flaw) -> Result<(), SinkFailed>
-    ensures { Wrote (sink_change K.Sink sink.old sink.new) result ((codes " " ++ kind_name flaw.now.kind) ++ (codes " " ++ (flaw.now.path ++ codes "\n"))) }
+    ensures { Wrote (sink_change K.Sink sink.old sink.new) result (flaw_end flaw.now) }
 {
     write_kind(sink, flaw.kind)?;
     write_path(sink, &flaw.path)

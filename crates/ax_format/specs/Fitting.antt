@@ -3,6 +3,7 @@ use Rattle.std.specs.Prelude.{ℕ, ◌+◌, ◌^◌, ◌==◌, nat_lt, nat_le, B
 use Rattle.std.specs.List.{list_all}
 use Rattle.ax_format.specs.Tree.{FixedTree, element, group, MembersTree, no_members, member_and, MemberTree, named, spare, KindTree, fixed, extended, counted, by_fx, explicit, compound, SlotsTree, no_slots, slot_and, spare_slot, subitem, ValueTree, number, member_values, part_values, occurrences, content_octets, marked, ValuesTree, no_values, value_and, value_count, ListsTree, no_lists, list_and, EntriesTree, no_entries, entry_and}
 use Rattle.ax_format.specs.Widths.{counter_width}
+use Rattle.ax_format.specs.declared.kind.Counter.{Counter}
 
 -- ---- fixed kinds
 
@@ -66,3 +67,7 @@ abbrev mutual
   entries_fit s (slot_and (subitem name k) ss) no_entries = entries_fit (s + 1) ss no_entries
   entries_fit s (slot_and (subitem name k) ss) (entry_and t v es) =
       if t == s then kind_fits k v && entries_fit (s + 1) ss es else entries_fit (s + 1) ss (entry_and t v es)
+
+-- no more values than the counter holds, and each of the kind
+abbrev pub counted_fit : Counter → KindTree → ValuesTree → Bool
+counted_fit size k vs = nat_lt (value_count vs) (2 ^ counter_width size) && each_fits (kind_fits k) vs

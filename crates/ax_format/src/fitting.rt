@@ -1,6 +1,6 @@
 //! Whether a value has a kind's shape. Nothing here takes memory.
 ghost use Rattle.std.specs.Prelude.{◌≡◌, ◌+◌, ◌^◌, ◌&&◌, nat_lt, MatchOption, false, map, length};
-ghost use Rattle.ax_format.specs.Fitting.{number_fits, fixed_fits, member_fits, members_fit, lists_fit, parts_fit, each_fits, kind_fits, entries_fit};
+ghost use Rattle.ax_format.specs.Fitting.{number_fits, fixed_fits, member_fits, members_fit, lists_fit, parts_fit, each_fits, counted_fit, kind_fits, entries_fit};
 ghost use Rattle.ax_format.specs.Plain.{fixed_tree, member_tree, members_tree, part_tree, kind_tree, slot_tree, slots_tree, value_tree, values_tree, lists_tree, entries_tree};
 ghost use Rattle.ax_format.specs.Tree.{SlotsTree, slot_and, value_count};
 ghost use Rattle.ax_format.specs.Widths.{counter_width};
@@ -153,7 +153,7 @@ pub fn fits_kind(kind: &Kind, value: &Value) -> bool
 /// Whether there are no more values than the counter holds, and each fits the inner kind.
 #[cycle(kind_fits)]
 fn fits_counted(counter: Counter, inner: &Kind, values: &Values) -> bool
-    ensures { result ≡ (nat_lt (value_count (values_tree values.now)) (2 ^ counter_width counter) && each_fits (kind_fits (kind_tree inner.now)) (values_tree values.now)) }
+    ensures { result ≡ counted_fit counter (kind_tree inner.now) (values_tree values.now) }
 {
     if values.count() > counter.greatest() {
         return false;

@@ -1,5 +1,5 @@
 -- What tokens spell, and which of them is bad where they spell nothing.
-use Rattle.std.specs.Prelude.{◌≡◌, ℕ, List, map}
+use Rattle.std.specs.Prelude.{◌≡◌, ℕ, List, MatchResult, Result, map}
 use Rattle.ax_format.specs.Specification.{SpecTree}
 use Rattle.ax_tokens.specs.PlainToken.{PlainToken}
 use Rattle.ax_tokens.specs.FirstBad.{FirstBad}
@@ -34,3 +34,7 @@ NamesBadToken tokens token = FirstBad IsSpec (texts_of tokens) token
 abbrev pub IsBad : List PlainToken → SyntaxError → Type 0
 IsBad tokens (BadToken token) = NamesBadToken tokens token
 IsBad tokens OutOfMemory = Unit {0}
+
+-- of an answer this holds, or memory ran out
+abbrev pub UnlessMemory : {A : Type 0} → Result A SyntaxError → (A → Type 0) → Type 0
+UnlessMemory result P = MatchResult result P (λ error. error ≡ OutOfMemory)

@@ -3,7 +3,7 @@
 ghost use Rattle.std.specs.Prelude.{◌≡◌, ◌⊎◌, ℕ, length, IfOk, IfErr, MatchResult, OnOk};
 ghost use Rattle.ax_format.specs.Plain.{spec_tree};
 ghost use Rattle.ax_format.specs.Specification.{SpecTree};
-ghost use Rattle.ax_grammar.specs.Answers.{SpellsSpec, IsBad, texts_of};
+ghost use Rattle.ax_grammar.specs.Answers.{SpellsSpec, IsBad, UnlessMemory, texts_of};
 ghost use Rattle.ax_grammar.specs.Gives.{Gives};
 ghost use Rattle.ax_grammar.specs.Rules.{whole_at};
 ghost use Rattle.ax_grammar.specs.declared.error.SyntaxError.TheVariants.{OutOfMemory};
@@ -40,7 +40,7 @@ pub fn read_spec(alloc: Global, tokens: &Tokens<'_>) -> Result<Spec, SyntaxError
     ensures bad { IfErr result (λ error. IsBad tokens.now error) }
 
     // Each comes wherever it holds, unless memory runs out.
-    ensures always_spells { (spec : SpecTree) → SpellsSpec tokens.now spec → MatchResult result (λ found. spec_tree found ≡ spec) (λ error. error ≡ OutOfMemory) }
+    ensures always_spells { (spec : SpecTree) → SpellsSpec tokens.now spec → UnlessMemory result (λ found. spec_tree found ≡ spec) }
     ensures always_bad { ((spec : SpecTree) → SpellsSpec tokens.now spec → ⊥) → OnOk result ⊥ }
 {
     let mut reader = SpecReader::new(tokens);

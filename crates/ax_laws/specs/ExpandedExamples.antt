@@ -2,7 +2,7 @@
 use Rattle.std.specs.Prelude.{ℕ, List, [], ◌∷◌, codes}
 use Rattle.ax_format.specs.EditionExamples.{octet_of}
 use Rattle.ax_format.specs.Specification.{ItemTree, SpecTree}
-use Rattle.ax_format.specs.Tree.{KindTree, explicit}
+use Rattle.ax_format.specs.Tree.{EntriesTree, KindTree, entry_and, explicit, no_entries, number, occurrences, values_of}
 use Rattle.ax_format.specs.declared.content.Content.TheVariants.{Raw}
 use Rattle.ax_format.specs.declared.spec.UapSlot.{UapSlot}
 use Rattle.ax_format.specs.declared.spec.UapSlot.TheVariants as Uap
@@ -23,3 +23,7 @@ without_re = spec_of_items (item (codes "010") (octet_of Raw) ∷ []) (Uap.Item 
 
 abbrev pub re_unused : SpecTree
 re_unused = spec_of_items (item (codes "010") (octet_of Raw) ∷ item (codes "RE") explicit ∷ []) (Uap.Item (codes "010") ∷ [])
+
+-- the entries of slots 1 and 3, of which the second has one occurrence
+abbrev pub first_and_third : EntriesTree
+first_and_third = entry_and 1 (number 5) (entry_and 3 (occurrences (values_of (number 7 ∷ []))) no_entries)

@@ -4,5 +4,6 @@ pub mod ConversionExamples
 pub mod ExpandedExamples
 pub mod FilterExamples
 pub mod KeyFates
+pub mod LineExamples
 pub mod MemberPlaces
 pub mod TextExamples

@@ -1,12 +1,12 @@
 //! Worked examples of the definitions. Each function stands for what its contract says.
-ghost use Rattle.std.specs.Prelude.{◌≡◌, [], ◌∷◌, codes, decimal};
+ghost use Rattle.std.specs.Prelude.{◌≡◌, [], ◌∷◌, codes};
 ghost use Rattle.ax_bits.specs.Bits.{bits};
-ghost use Rattle.ax_grammar.specs.Keywords.{keyword_text};
-ghost use Rattle.ax_format.specs.Tree.{ValueTree, number, occurrences, values_of, marked, no_entries, entry_and};
+ghost use Rattle.ax_format.specs.Tree.{number, occurrences, values_of, marked, no_entries, entry_and};
 ghost use Rattle.ax_format.specs.declared.flaw.FlawKind.TheVariants.{TooManySlots};
 ghost use Rattle.ax_expand.specs.Content.{SpellsContent, CanonContent, FailsContent};
 ghost use Rattle.ax_expand.specs.Examples.{one_octet, two_octets, by_fx, one_octet_for};
 ghost use Rattle.ax_expand.specs.Expansion.{expansion_flaws};
+ghost use Rattle.ax_laws.specs.ExpandedExamples.{first_and_third};
 ghost use Rattle.ax_expand.specs.Files.{form_texts};
 ghost use Rattle.ax_expand.specs.declared.fault.ContentCause.TheVariants.{RunsOut, UndefinedSlot, PresenceTooLong, TrailingOctets};
 ghost use Rattle.ax_expand.specs.declared.form.Form.TheVariants.{Fx, Fixed};
@@ -20,7 +20,7 @@ pub fn fixed_contents_written()
     ensures first { CanonContent (Fixed 1) one_octet.slots (marked (entry_and 1 (number 5) no_entries)) ≡ bits (0x80 ∷ 0x05 ∷ []) }
     ensures third { CanonContent (Fixed 1) one_octet.slots (marked (entry_and 3 (occurrences (values_of (number 0xaa ∷ number 0xbb ∷ []))) no_entries))
         ≡ bits (0x20 ∷ 0x02 ∷ 0xaa ∷ 0xbb ∷ []) }
-    ensures both { CanonContent (Fixed 1) one_octet.slots (marked (entry_and 1 (number 5) (entry_and 3 (occurrences (values_of (number 7 ∷ []))) no_entries)))
+    ensures both { CanonContent (Fixed 1) one_octet.slots (marked first_and_third)
         ≡ bits (0xa0 ∷ 0x05 ∷ 0x01 ∷ 0x07 ∷ []) }
     ensures two_octets { CanonContent (Fixed 2) two_octets.slots (marked (entry_and 1 (number 5) no_entries)) ≡ bits (0x80 ∷ 0x00 ∷ 0x05 ∷ []) }
 {}

@@ -8,7 +8,8 @@ use ax_lines::LineWork;
 
 /// An input has one answer by a line command that has no two for a line: one end, and one list of lines with their answers.
 pub fn one_answer<W: LineWork>(work: &W)
-    ensures { (line_limit limit : ℕ) (input : List ℕ) (lines others : List (List ℕ)) (answers replies : List (LineAnswer W.Fault)) (end other : LinesEnd W.Fault)
+    ensures { (line_limit limit : ℕ) (input : List ℕ)
+        (lines others : List (List ℕ)) (answers replies : List (LineAnswer W.Fault)) (end other : LinesEnd W.Fault)
         → HasOneAnswer (W.command work.now) → LinesAnswer (W.command work.now) line_limit limit input lines answers end
         → LinesAnswer (W.command work.now) line_limit limit input others replies other
         → (lines ≡ others) × (answers ≡ replies) × (end ≡ other) }

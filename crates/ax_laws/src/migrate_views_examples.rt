@@ -1,14 +1,15 @@
 //! Worked examples of migrated octets by moves. Each function stands for what its contract says.
 ghost use Rattle.std.specs.Prelude.{◌≡◌, [], ◌∷◌, ◌++◌};
 ghost use Rattle.ax_bits.specs.Bits.{bits, word};
-ghost use Rattle.ax_relation.specs.Moves.{moves_from, no_moves, move_from, record_moves};
+ghost use Rattle.ax_relation.specs.Moves.{moves_from, record_moves};
 ghost use Rattle.ax_moves.specs.Fronts.{cleared};
 ghost use Rattle.ax_moves.specs.Octets.{canon_by, with_slot};
 ghost use Rattle.ax_format.specs.EditionExamples.{first_edition, second_edition, third_edition, both_subitems};
 ghost use Rattle.ax_format.specs.PartExamples.{three_parts, other_second, two_same, closed_second, all_parts, two_parts};
 ghost use Rattle.ax_format.specs.Specification.{record_kind};
-ghost use Rattle.ax_format.specs.Tree.{marked, no_entries, entry_and, lists_of, number, part_values};
+ghost use Rattle.ax_format.specs.Tree.{marked, no_entries};
 ghost use Rattle.ax_codec.specs.Bare.{bare_kind};
+ghost use Rattle.ax_laws.specs.AlikeExamples.{second_full};
 
 /// A compound of which one subitem moves; one of which nothing moves, so that its record has no item; and no entries.
 pub fn octets_by_moves()
@@ -27,7 +28,7 @@ pub fn octets_of_first_parts()
         ≡ word 8 0x80 ++ word 8 2 }
     ensures few { canon_by (moves_from (record_moves three_parts two_same)) (bare_kind (record_kind three_parts)) (marked two_parts)
         ≡ word 8 0x80 ++ (word 8 3 ++ word 8 4) }
-    ensures closed { canon_by (moves_from (record_moves closed_second closed_second)) (bare_kind (record_kind closed_second)) (marked (entry_and 1 (part_values (lists_of ((number 5 ∷ []) ∷ (number 255 ∷ []) ∷ []))) no_entries))
+    ensures closed { canon_by (moves_from (record_moves closed_second closed_second)) (bare_kind (record_kind closed_second)) (marked second_full)
         ≡ word 8 0x80 ++ (word 8 0x0b ++ word 8 0xff) }
 {}
 

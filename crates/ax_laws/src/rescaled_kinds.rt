@@ -1,6 +1,6 @@
 //! Worked examples of kinds that are alike. Each function stands for what its contract says.
 ghost use Rattle.std.specs.Prelude.{◌≡◌, true, false, [], ◌∷◌, codes};
-ghost use Rattle.ax_format.specs.Tree.{element, fixed, by_fx, number, member_values, occurrences, marked, values_of, no_entries, entry_and};
+ghost use Rattle.ax_format.specs.Tree.{element, fixed, by_fx, number, occurrences};
 ghost use Rattle.ax_format.specs.declared.content.Content.TheVariants.{Raw, Table, Integer};
 ghost use Rattle.ax_format.specs.declared.content.Sign.TheVariants.{Unsigned, Signed};
 ghost use Rattle.ax_format.specs.declared.kind.LastPart.TheVariants.{WithFx, WithoutFx};
@@ -52,7 +52,7 @@ pub fn not_alike()
 /// below a counted item a compound with its subitem and one without.
 #[tactic(auto, using(crate::proofs::WorkedValues::values_worked))]
 pub fn values_converted()
-    ensures group { Converted (pair 8 (pieces 16 128 (codes "s"))) (pair 8 (pieces 24 256 (codes "s"))) (member_values (values_of (number 256 ∷ number 9 ∷ number 3 ∷ []))) (member_values (values_of (number 512 ∷ number 9 ∷ number 6 ∷ []))) }
-    ensures by_fx { Converted (by_fx (pieces 7 1 (codes "s"))) (by_fx (pieces 15 2 (codes "s"))) (occurrences (values_of (number 1 ∷ number 100 ∷ []))) (occurrences (values_of (number 2 ∷ number 200 ∷ []))) }
-    ensures counted { Converted (many (subitems (fixed (pieces 16 4 (codes "s"))))) (many (subitems (fixed (pieces 24 8 (codes "s"))))) (occurrences (values_of (marked (entry_and 1 (number 5) no_entries) ∷ marked no_entries ∷ []))) (occurrences (values_of (marked (entry_and 1 (number 10) no_entries) ∷ marked no_entries ∷ []))) }
+    ensures group { Converted (pair 8 (seconds 16 128)) (pair 8 (seconds 24 256)) (with_spare 256 9 3) (with_spare 512 9 6) }
+    ensures by_fx { Converted (by_fx (seconds 7 1)) (by_fx (seconds 15 2)) (two_of 1 100) (two_of 2 200) }
+    ensures counted { Converted (many (subitems (fixed (seconds 16 4)))) (many (subitems (fixed (seconds 24 8)))) (one_and_none 5) (one_and_none 10) }
 {}

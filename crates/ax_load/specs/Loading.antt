@@ -1,9 +1,11 @@
 -- Which specifications the files of a command line give, or how the run ends at the first one that gives none.
 use Rattle.std.specs.Prelude.{◌≡◌, ℕ, ◌⊎◌, List, [], ◌∷◌, ◌++◌, Bool, false, IsTrue, Option, None, IsSome, length}
 use Rattle.ax_endpoints.specs.Files.{File, HoldsFile, Lacks, TooMany}
-use Rattle.ax_endpoints.specs.Changes.{LibraryCounts}
+use Rattle.ax_endpoints.specs.Changes.{LibraryCounts, library_counts}
+use Rattle.ax_endpoints.specs.declared.libraries.Library as LibraryOf
 use Rattle.ax_endpoints.specs.Told.{Rose}
 use Rattle.ax_format.specs.Specification.{SpecTree, spec_of}
+use Rattle.ax_load.specs.Counting.{TookThrough}
 use Rattle.ax_load.specs.FileAnswers.{largest_file, IsAcceptedIn, IsRefusedIn}
 use Rattle.ax_load.specs.Languages.{Language, category_files, expansion_files}
 use Rattle.ax_load.specs.declared.fault.LoadStop.{LoadStop}
@@ -93,3 +95,21 @@ pub record FilesEnd (distinct : Bool) (files : Option (List File)) (c : LibraryC
 pub data EitherEnds (files : Option (List File)) (c : LibraryCounts) (name expansion : List ℕ) (outcome : LoadStop) : Type 0 where
   first : FilesEnd false files c (name ∷ []) outcome → EitherEnds files c name expansion outcome
   second : (spec : SpecTree) → FilesGive false files (name ∷ []) (spec ∷ []) → StopsAtFile expansion_files files c expansion 1 outcome → EitherEnds files c name expansion outcome
+
+-- ---- of a library that is told before and after
+
+-- the file of this name ends the run
+abbrev pub StopsHere : {L T : Type 0} → LibraryOf.Ghosts L → L → L → Language T → List ℕ → ℕ → LoadStop → Type 0
+StopsHere ghosts before after language name file stop = StopsAtFile language (ghosts.files before) (library_counts ghosts before after) name file stop
+
+-- the specification of the file of this name or the expansion of the other ends it
+abbrev pub EitherStops : {L : Type 0} → LibraryOf.Ghosts L → L → L → List ℕ → List ℕ → LoadStop → Type 0
+EitherStops ghosts before after name expansion stop = EitherEnds (ghosts.files before) (library_counts ghosts before after) name expansion stop
+
+-- one of the files of these names does
+abbrev pub OneStops : {L : Type 0} → LibraryOf.Ghosts L → L → L → Bool → List (List ℕ) → LoadStop → Type 0
+OneStops ghosts before after distinct names stop = FilesEnd distinct (ghosts.files before) (library_counts ghosts before after) names stop
+
+-- the octets of the files up to it were taken
+abbrev pub TookUpTo : {L : Type 0} → LibraryOf.Ghosts L → L → L → List (List ℕ) → LoadStop → Type 0
+TookUpTo ghosts before after names stop = TookThrough (ghosts.files before) (ghosts.taken before) (ghosts.taken after) names stop

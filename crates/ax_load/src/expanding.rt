@@ -1,11 +1,10 @@
 //! A category file and an expansion file, loaded one after the other.
 ghost use Rattle.std.specs.Prelude.{◌≡◌, ◌+◌, ◌≤◌, false, [], ◌∷◌, IfOk, IfErr};
 ghost use Rattle.ax_expand.specs.Expansion.{expansion_tree};
-ghost use Rattle.ax_load.specs.Counting.{TookFiles, TookAt, TookThrough, UnlessLoadFault};
+ghost use Rattle.ax_load.specs.Counting.{TookFiles, TookAt, UnlessLoadFault};
 ghost use Rattle.ax_load.specs.Languages.{expansion_files};
-ghost use Rattle.ax_load.specs.Loading.{GivesIn, StopsAtFile, FilesGive, EitherEnds};
+ghost use Rattle.ax_load.specs.Loading.{GivesIn, StopsHere, FilesGive, EitherStops, TookUpTo};
 ghost use Rattle.ax_format.specs.Plain.{spec_tree};
-ghost use Rattle.ax_endpoints.specs.Changes.{library_counts};
 
 use crate::expansion_files::read_expansion_file;
 use crate::fault::LoadStop;
@@ -26,7 +25,7 @@ pub fn load_expansion<L: Library>(
     file: u32,
 ) -> Result<AcceptedExpansion, LoadStop>
     ensures gives { IfOk result (λ accepted. GivesIn expansion_files (L.files library.old) name.now (expansion_tree accepted)) }
-    ensures stops { IfErr result (λ outcome. StopsAtFile expansion_files (L.files library.old) (library_counts L.Library library.old library.new) name.now file outcome) }
+    ensures stops { IfErr result (λ stop. StopsHere L.Library library.old library.new expansion_files name.now file stop) }
     ensures keeps { L.files library.new ≡ L.files library.old }
     ensures number_never_falls { L.taken library.old ≤ L.taken library.new }
     ensures took { IfOk result (λ _. TookFiles (L.files library.old) (L.taken library.old) (L.taken library.new) (name.now ∷ [])) }
@@ -57,11 +56,11 @@ pub fn load_with_expansion<L: Library>(
 ) -> Result<(Accepted, AcceptedExpansion), LoadStop>
     ensures specs { IfOk result (λ both. FilesGive false (L.files library.old) (name.now ∷ []) (spec_tree both.0 ∷ [])) }
     ensures expansion { IfOk result (λ both. GivesIn expansion_files (L.files library.old) expansion.now (expansion_tree both.1)) }
-    ensures ends { IfErr result (λ outcome. EitherEnds (L.files library.old) (library_counts L.Library library.old library.new) name.now expansion.now outcome) }
+    ensures ends { IfErr result (λ stop. EitherStops L.Library library.old library.new name.now expansion.now stop) }
     ensures keeps { L.files library.new ≡ L.files library.old }
     ensures number_never_falls { L.taken library.old ≤ L.taken library.new }
     ensures took { IfOk result (λ _. TookFiles (L.files library.old) (L.taken library.old) (L.taken library.new) (name.now ∷ expansion.now ∷ [])) }
-    ensures took_through { IfErr result (λ stop. TookThrough (L.files library.old) (L.taken library.old) (L.taken library.new) (name.now ∷ expansion.now ∷ []) stop) }
+    ensures took_through { IfErr result (λ stop. TookUpTo L.Library library.old library.new (name.now ∷ expansion.now ∷ []) stop) }
     ensures never_falls { L.faults library.old ≤ L.faults library.new }
     ensures once { L.faults library.new ≤ L.faults library.old + 1 }
     ensures quiet { UnlessLoadFault result (L.faults library.new ≡ L.faults library.old) }

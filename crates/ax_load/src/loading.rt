@@ -57,7 +57,7 @@ pub fn load_file<L: Library>(
     file: u32,
 ) -> Result<Accepted, LoadStop>
     ensures gives { IfOk result (λ accepted. GivesSpec (L.files library.old) name.now (spec_tree accepted)) }
-    ensures stops { IfErr result (λ outcome. StopsAtFile category_files (L.files library.old) (library_counts L.Library library.old library.new) name.now file outcome) }
+    ensures stops { IfErr result (λ stop. StopsHere L.Library library.old library.new category_files name.now file stop) }
     ensures keeps { L.files library.new ≡ L.files library.old }
     ensures number_never_falls { L.taken library.old ≤ L.taken library.new }
     ensures took { IfOk result (λ _. TookFiles (L.files library.old) (L.taken library.old) (L.taken library.new) (name.now ∷ [])) }
@@ -127,11 +127,11 @@ pub fn load_two<L: Library>(
     second: &str,
 ) -> Result<(Accepted, Accepted), LoadStop>
     ensures gives { IfOk result (λ both. FilesGive false (L.files library.old) (first.now ∷ second.now ∷ []) (spec_tree both.0 ∷ spec_tree both.1 ∷ [])) }
-    ensures ends { IfErr result (λ outcome. FilesEnd false (L.files library.old) (library_counts L.Library library.old library.new) (first.now ∷ second.now ∷ []) outcome) }
+    ensures ends { IfErr result (λ stop. OneStops L.Library library.old library.new false (first.now ∷ second.now ∷ []) stop) }
     ensures keeps { L.files library.new ≡ L.files library.old }
     ensures number_never_falls { L.taken library.old ≤ L.taken library.new }
     ensures took { IfOk result (λ _. TookFiles (L.files library.old) (L.taken library.old) (L.taken library.new) (first.now ∷ second.now ∷ [])) }
-    ensures took_through { IfErr result (λ stop. TookThrough (L.files library.old) (L.taken library.old) (L.taken library.new) (first.now ∷ second.now ∷ []) stop) }
+    ensures took_through { IfErr result (λ stop. TookUpTo L.Library library.old library.new (first.now ∷ second.now ∷ []) stop) }
     ensures never_falls { L.faults library.old ≤ L.faults library.new }
     ensures once { L.faults library.new ≤ L.faults library.old + 1 }
     ensures quiet { UnlessLoadFault result (L.faults library.new ≡ L.faults library.old) }

@@ -43,4 +43,5 @@ pub use Rattle.ax_format.specs.Telling
 pub use Rattle.ax_format.specs.Tree
 pub use Rattle.ax_format.specs.Whole
 pub use Rattle.ax_format.specs.Widths
+pub mod ExampleValues
 pub mod Judging

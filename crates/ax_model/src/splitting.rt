@@ -1,29 +1,28 @@
 //! Records split into data blocks: worked examples, and the laws. Each function stands for what its contract says.
-ghost use Rattle.std.specs.Prelude.{◌≡◌, ℕ, ◌<◌, ◌≤◌, List, [], ◌∷◌, length, take, drop, None, Some, codes};
-ghost use Rattle.ax_format.specs.EditionExamples.{octet_of, one_item};
+ghost use Rattle.std.specs.Prelude.{◌≡◌, ℕ, ◌<◌, ◌≤◌, List, [], ◌∷◌, length, take, drop, None, Some};
 ghost use Rattle.ax_format.specs.LongestFronts.{AllFit, AreLongestFronts, IsLongestFront, joined_lists};
 ghost use Rattle.ax_format.specs.Specification.{SpecTree};
 ghost use Rattle.ax_format.specs.Split.{EachFits, fit_within, records_length, split_within, too_long_within};
-ghost use Rattle.ax_format.specs.Tree.{EntriesTree, number, no_entries, entry_and};
-ghost use Rattle.ax_format.specs.declared.content.Content.TheVariants.{Raw};
+ghost use Rattle.ax_format.specs.Tree.{EntriesTree, no_entries};
+ghost use Rattle.ax_model.specs.ExampleValues.{of_octet, one_octet};
 
 /// Records of two octets, and of one that has no item: the first blocks are full, though a later record would fit in them.
 pub fn records_in_small_blocks()
-    ensures length { records_length (one_item (codes "1") (octet_of Raw)) (entry_and 1 (number 5) no_entries ∷ no_entries ∷ []) ≡ 6 }
-    ensures whole { split_within 6 (one_item (codes "1") (octet_of Raw)) (entry_and 1 (number 5) no_entries ∷ no_entries ∷ [])
-        ≡ (entry_and 1 (number 5) no_entries ∷ no_entries ∷ []) ∷ [] }
-    ensures long { split_within 6 (one_item (codes "1") (octet_of Raw)) (entry_and 1 (number 5) no_entries ∷ entry_and 1 (number 6) no_entries ∷ no_entries ∷ no_entries ∷ [])
-        ≡ (entry_and 1 (number 5) no_entries ∷ []) ∷ (entry_and 1 (number 6) no_entries ∷ no_entries ∷ []) ∷ (no_entries ∷ []) ∷ [] }
-    ensures fit { fit_within 6 (one_item (codes "1") (octet_of Raw)) (entry_and 1 (number 5) no_entries ∷ entry_and 1 (number 6) no_entries ∷ [])
+    ensures length { records_length one_octet (of_octet 5 ∷ no_entries ∷ []) ≡ 6 }
+    ensures whole { split_within 6 one_octet (of_octet 5 ∷ no_entries ∷ [])
+        ≡ (of_octet 5 ∷ no_entries ∷ []) ∷ [] }
+    ensures long { split_within 6 one_octet (of_octet 5 ∷ of_octet 6 ∷ no_entries ∷ no_entries ∷ [])
+        ≡ (of_octet 5 ∷ []) ∷ (of_octet 6 ∷ no_entries ∷ []) ∷ (no_entries ∷ []) ∷ [] }
+    ensures fit { fit_within 6 one_octet (of_octet 5 ∷ of_octet 6 ∷ [])
         ≡ 1 }
-    ensures none { split_within 6 (one_item (codes "1") (octet_of Raw)) [] ≡ [] }
+    ensures none { split_within 6 one_octet [] ≡ [] }
 {}
 
 /// The first record that has too many octets for a block of its own.
 pub fn records_that_are_too_long()
-    ensures long { too_long_within 4 (one_item (codes "1") (octet_of Raw)) (no_entries ∷ entry_and 1 (number 5) no_entries ∷ []) ≡ Some 5 }
-    ensures none { too_long_within 4 (one_item (codes "1") (octet_of Raw)) (no_entries ∷ no_entries ∷ []) ≡ None }
-    ensures fit { fit_within 4 (one_item (codes "1") (octet_of Raw)) (entry_and 1 (number 5) no_entries ∷ no_entries ∷ []) ≡ 0 }
+    ensures long { too_long_within 4 one_octet (no_entries ∷ of_octet 5 ∷ []) ≡ Some 5 }
+    ensures none { too_long_within 4 one_octet (no_entries ∷ no_entries ∷ []) ≡ None }
+    ensures fit { fit_within 4 one_octet (of_octet 5 ∷ no_entries ∷ []) ≡ 0 }
 {}
 
 /// As many records as fit are the longest front of the records that does, where a block of none does.

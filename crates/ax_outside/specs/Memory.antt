@@ -47,6 +47,10 @@ pub record LibraryState : Type 0 where
   pub faults : ℕ
   pub taken : ℕ
 
+-- whether its next call fails
+abbrev pub fails_now : LibraryState → Bool
+fails_now library = is_listed library.failing library.call
+
 -- the files of a list of names and octets
 abbrev pub files_of : List (String Global × Vec ℕ Global) → List File
 files_of named = map (λ one. file (string_bytes one.0) one.1.items) named

@@ -2,7 +2,7 @@
 ghost use Rattle.std.specs.Prelude.{◌≡◌, ◌+◌, ◌-◌, ◌^◌, ◌<◌, ◌≤◌, ◌↔◌, ◌⊎◌, length, min, Some, None, IsTrue, IsFalse, IfOk, IsErrOf, MatchOption, MatchResult, if◌then◌else◌};
 ghost use Rattle.ax_endpoints.specs.Told.{Rose, one_more, number_after};
 ghost use Rattle.ax_endpoints.specs.Files.{octets_of, Exceeds};
-ghost use Rattle.ax_outside.specs.Memory.{LibraryState, files_of, is_listed};
+ghost use Rattle.ax_outside.specs.Memory.{LibraryState, fails_now, files_of, is_listed};
 ghost use Rattle.ax_endpoints.specs.declared.libraries.LoadError.TheVariants.{Failed, TooLarge};
 
 use crate::calls::is_listed;
@@ -112,14 +112,14 @@ impl Library for MemLibrary {
     fn load(&mut self, alloc: Global, name: &str, limit: u32) -> Result<Vec<u8>, LoadError>
         ensures loaded { IfOk result (λ v. octets_of name.now self.old.files ≡ Some v.items) }
         ensures limited { IfOk result (λ v. length v.items ≤ limit) }
-        ensures failed { IsErrOf result Failed ↔ (IsTrue (is_listed self.old.failing self.old.call) ⊎ (octets_of name.now self.old.files ≡ None)) }
-        ensures too_large { IsErrOf result TooLarge ↔ (IsFalse (is_listed self.old.failing self.old.call) × Exceeds (octets_of name.now self.old.files) limit) }
-        ensures counts { self.new.faults ≡ (if is_listed self.old.failing self.old.call then one_more self.old.faults else self.old.faults) }
+        ensures failed { IsErrOf result Failed ↔ (IsTrue (fails_now self.old) ⊎ (octets_of name.now self.old.files ≡ None)) }
+        ensures too_large { IsErrOf result TooLarge ↔ (IsFalse (fails_now self.old) × Exceeds (octets_of name.now self.old.files) limit) }
+        ensures counts { self.new.faults ≡ (if fails_now self.old then one_more self.old.faults else self.old.faults) }
         ensures number { MatchResult result (λ v. self.new.taken ≡ number_after self.old.taken (length v.items)) (λ _. self.new.taken ≡ self.old.taken) }
         ensures next_call { self.new.call ≡ one_more self.old.call }
         ensures same_files { self.new.files ≡ self.old.files }
         ensures same_failing { self.new.failing ≡ self.old.failing }
-        ensures rose { IsTrue (is_listed self.old.failing self.old.call) → Rose self.old.faults self.new.faults }
+        ensures rose { IsTrue (fails_now self.old) → Rose self.old.faults self.new.faults }
         ensures never_falls { self.old.faults ≤ self.new.faults }
         ensures once { self.new.faults ≤ self.old.faults + 1 }
         ensures quiet { IsErrOf result Failed ⊎ (self.new.faults ≡ self.old.faults) }

@@ -1,7 +1,7 @@
 //! The line of an entry of a block.
 ghost use Rattle.std.specs.Prelude.{◌≡◌, ◌++◌, codes};
 ghost use Rattle.ax_endpoints.specs.Changes.{Wrote, sink_change};
-ghost use Rattle.ax_report.specs.Lines.{numbered, entry_line};
+ghost use Rattle.ax_report.specs.Lines.{numbered, entry_line, entry_place};
 
 use crate::pieces::{write_numbered, write_three};
 use ax_endpoints::{Sink, SinkFailed, write_text};
@@ -30,7 +30,7 @@ fn write_place<K: Sink>(
     record_at: u32,
     path: &[u8],
 ) -> Result<(), SinkFailed>
-    ensures { Wrote (sink_change K.Sink sink.old sink.new) result (numbered (codes " block ") block ++ (numbered (codes " record ") record_at ++ (codes " " ++ (path.now ++ codes "\n")))) }
+    ensures { Wrote (sink_change K.Sink sink.old sink.new) result (entry_place block record_at path.now) }
 {
     write_numbered(sink, b" block ", block)?;
     write_in_block(sink, record_at, path)

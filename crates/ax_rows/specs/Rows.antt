@@ -17,6 +17,10 @@ abbrev pub slot_steps : ℕ → ℕ → ℕ → (ℕ → List Step) → List Ste
 slot_steps zero link skip go = record { skip = skip; link = link } ∷ go 0
 slot_steps (suc n) link skip go = go (skip + suc n)
 
+-- a marked slot of that many octets adds its steps to these, where so many octets before it are to be passed over, and so many after it
+abbrev pub AddsSlot : ℕ → ℕ → ℕ → List Step → List Step → ℕ → Type 0
+AddsSlot run link skip old new now = (go : ℕ → List Step) → new ++ go now ≡ old ++ slot_steps run link skip go
+
 abbrev pub mark_steps : ℕ → ℕ → ℕ → ℕ → (ℕ → List Step) → List Step
 mark_steps zero octets link skip go = go skip
 mark_steps (suc m) octets link skip go = slot_steps octets link skip go

@@ -1,9 +1,8 @@
 //! Rows made: one for each presence octet and each value of its marks.
-ghost use Rattle.std.specs.Prelude.{◌≡◌, ◌↔◌, ◌+◌, ◌-◌, ◌*◌, ◌/◌, ◌%◌, ◌<◌, ◌≤◌, ◌++◌, List, ℕ, [], length, drop, get_or, IfOk, OnOk, IsTrue};
+ghost use Rattle.std.specs.Prelude.{◌≡◌, ◌↔◌, ◌+◌, ◌-◌, ◌*◌, ◌/◌, ◌%◌, ◌<◌, ◌≤◌, ◌++◌, [], length, drop, get_or, IfOk, OnOk, IsTrue};
 ghost use Rattle.std.specs.List.{AllByRecursion};
 ghost use Rattle.ax_fspec.specs.Marks.{seven};
-ghost use Rattle.ax_rows.specs.Rows.{row_of, slot_steps, CanBeMarked, HaveRow, IsRowIfAny, AreRows, Extends};
-ghost use Rattle.ax_rows.specs.declared.step.Step.{Step};
+ghost use Rattle.ax_rows.specs.Rows.{row_of, AddsSlot, CanBeMarked, HaveRow, IsRowIfAny, AreRows, Extends};
 
 use crate::step::Step;
 use std::alloc::AllocError;
@@ -59,7 +58,7 @@ fn push_slot(octets: &[u32], link: u32, skip: u32, steps: &mut Vec<Step>) -> Res
     requires link { (0 < link) × (link ≤ length octets.now) }
     requires run { get_or octets.now (link - 1) 0 ≤ 65535 }
     requires skip { skip ≤ 393210 }
-    ensures row { IfOk result (λ now. (go : ℕ → List Step) → steps.new.items ++ go now ≡ steps.old.items ++ slot_steps (get_or octets.now (link - 1) 0) link skip go) }
+    ensures row { IfOk result (λ now. AddsSlot (get_or octets.now (link - 1) 0) link skip steps.old.items steps.new.items now) }
     ensures small { IfOk result (λ now. now ≤ skip + 65535) }
     ensures kept { Extends steps.old.items steps.new.items }
 {

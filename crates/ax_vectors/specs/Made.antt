@@ -1,14 +1,20 @@
 -- What is made under a kind, over a specification, and as data blocks: the bits of a spelling, and the octets of blocks.
-use Rattle.std.specs.Prelude.{ℕ, zero, suc, ◌+◌, ◌-◌, ◌*◌, ◌/◌, ◌%◌, ◌^◌, ◌==◌, nat_lt, Bool, true, false, if◌then◌else◌, List, [], ◌∷◌, ◌++◌, length, Option, Some, None}
+use Rattle.std.specs.Prelude.{ℕ, zero, suc, ◌+◌, ◌-◌, ◌*◌, ◌/◌, ◌%◌, ◌^◌, ◌==◌, nat_lt, Bool, true, false, if◌then◌else◌, List, [], ◌∷◌, ◌++◌, length, map, Option, Some, None}
+use Rattle.std.specs.Option.{option_map}
 use Rattle.ax_bits.specs.Bits.{word}
 use Rattle.ax_format.specs.Blocks.{SpellsBlock, read_block}
 use Rattle.ax_format.specs.CanonicalOctets.{octets_of, framed}
+use Rattle.ax_format.specs.Lengths.{kind_of_slot}
+use Rattle.ax_format.specs.Plain.{item_tree, slot_tree}
 use Rattle.ax_format.specs.Presence.{octets_needed, first_mark, later_marks, marks_upto, marks_after, least_presence}
 use Rattle.ax_format.specs.Sizes.{longest_block}
-use Rattle.ax_format.specs.Specification.{SpecTree, record_kind}
+use Rattle.ax_format.specs.Specification.{SpecTree, record_kind, uap_slot}
 use Rattle.ax_format.specs.Widths.{counter_width, fx_width}
 use Rattle.ax_format.specs.declared.kind.Counter.{Counter}
 use Rattle.ax_format.specs.declared.kind.LastPart.{LastPart}
+use Rattle.ax_format.specs.declared.kind.Slot.{Slot}
+use Rattle.ax_format.specs.declared.spec.Spec.{Spec}
+use Rattle.ax_format.specs.declared.spec.UapSlot.{UapSlot}
 use Rattle.ax_format.specs.Tree.{FixedTree, element, group, MemberTree, MembersTree, no_members, member_and, named, spare, KindTree, fixed, extended, counted, by_fx, explicit, compound, SlotsTree, no_slots, slot_and, spare_slot, subitem, defined_slots, EntriesTree}
 use Rattle.ax_vectors.specs.Draws.{drawn, next_state}
 use Rattle.ax_vectors.specs.Making.{Maker, just, both, times, by_draw}
@@ -164,3 +170,11 @@ Made spec seed count = (times count (block_made spec) seed).0
 pub record IsSpelledBlock (spec : SpecTree) (octets : List ℕ) : Type 0 where
   pub records : List EntriesTree
   pub spelled : SpellsBlock (spec ∷ []) (read_block spec.category records) octets
+
+-- of a slot of a compound, where it is marked and not spare
+abbrev pub subitem_made : Bool → ℕ → Slot → Maker
+subitem_made is_marked around slot = value_where is_marked (option_map (kind_made around) (kind_of_slot (slot_tree slot)))
+
+-- of a slot of the UAP, where it is marked and an item's
+abbrev pub item_made : Bool → Spec → UapSlot → Maker
+item_made is_marked spec slot = value_where is_marked (option_map (kind_made 0) (kind_of_slot (uap_slot (map item_tree spec.items) slot)))

@@ -9,6 +9,7 @@ use std::marker::Model;
 /// A growing string of bits. Contracts see it as the list of them.
 #[derive(Drop)]
 pub(crate) struct BitString {
+    alloc: Global,
     octets: Vec<u8>,
     // How many bits of the last octet are free.
     free: u32,
@@ -31,9 +32,15 @@ impl BitString {
         ensures { result ≡ [] }
     {
         BitString {
+            alloc,
             octets: Vec::new(alloc),
             free: 0,
         }
+    }
+
+    /// By what its memory is taken.
+    pub(crate) fn alloc(&self) -> Global {
+        self.alloc
     }
 
     /// Puts the `width` bits that spell `value` after the others. Without memory it is as before.

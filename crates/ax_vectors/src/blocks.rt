@@ -10,7 +10,7 @@ ghost use Rattle.ax_format.specs.Plain.{item_tree, kind_tree, spec_tree};
 ghost use Rattle.ax_format.specs.Sizes.{longest_body};
 ghost use Rattle.ax_format.specs.Specification.{uap_slot, record_slots};
 ghost use Rattle.ax_format.specs.Tree.{slot_and, no_slots, defined_slots};
-ghost use Rattle.ax_vectors.specs.Made.{marks_made, value_where, values_made, kind_made, makers, record_made, records_made, block_of, block_made, IsSpelledBlock};
+ghost use Rattle.ax_vectors.specs.Made.{item_made, marks_made, values_made, makers, record_made, records_made, block_of, block_made, IsSpelledBlock};
 ghost use Rattle.ax_vectors.specs.Making.{Adds, times};
 
 use crate::bit_string::BitString;
@@ -58,7 +58,6 @@ fn draw_marks(alloc: Global, spec: &Spec, draws: &mut Draws) -> Result<Vec<u8>, 
 /// Puts the value of a slot of the UAP after the bits, where it is marked and an item's.
 #[tactic(auto, using(crate::proofs::RecordDraws::items))]
 fn make_item(
-    alloc: Global,
     spec: &Spec,
     slot: &UapSlot,
     is_marked: bool,
@@ -66,13 +65,13 @@ fn make_item(
     into: &mut BitString,
 ) -> Result<(), AllocError>
     requires { SlotsInBounds (slot_and (uap_slot (map item_tree spec.now.items) slot.now) no_slots) }
-    ensures { OnOk result (Adds (value_where is_marked (option_map (kind_made 0) (kind_of_slot (uap_slot (map item_tree spec.now.items) slot.now)))) into.old into.new draws.old draws.new) }
+    ensures { OnOk result (Adds (item_made is_marked spec.now slot.now) into.old into.new draws.old draws.new) }
 {
     if !is_marked {
         return Ok(());
     }
     match kind_of(spec, slot) {
-        Some(kind) => make_value(alloc, kind, 0, draws, into),
+        Some(kind) => make_value(kind, 0, draws, into),
         None => Ok(()),
     }
 }
@@ -80,7 +79,6 @@ fn make_item(
 /// Puts the values of the marked items after the bits.
 #[tactic(auto, using(crate::proofs::SlotDraws::slot_values))]
 fn make_items(
-    alloc: Global,
     spec: &Spec,
     marks: &[u8],
     draws: &mut Draws,
@@ -90,31 +88,25 @@ fn make_items(
     ensures { OnOk result (Adds (values_made (makers 0 (record_slots (spec_tree spec.now))) marks.now) into.old into.new draws.old draws.new) }
 {
     for (slot, mark) in spec.uap.as_slice().iter().zip(marks) {
-        make_item(alloc, spec, slot, *mark == 1, draws, into)?;
+        make_item(spec, slot, *mark == 1, draws, into)?;
     }
     Ok(())
 }
 
 /// Puts the drawn FSPEC of a record and its items after the bits.
 #[tactic(auto, using(crate::proofs::RecordDraws::whole_records))]
-fn make_record(
-    alloc: Global,
-    spec: &Spec,
-    draws: &mut Draws,
-    into: &mut BitString,
-) -> Result<(), AllocError>
+fn make_record(spec: &Spec, draws: &mut Draws, into: &mut BitString) -> Result<(), AllocError>
     requires { HasNoFlaw spec.now }
     ensures { OnOk result (Adds (record_made (spec_tree spec.now)) into.old into.new draws.old draws.new) }
 {
-    let marks = draw_marks(alloc, spec, draws)?;
+    let marks = draw_marks(into.alloc(), spec, draws)?;
     make_field(&marks, draws, into)?;
-    make_items(alloc, spec, &marks, draws, into)
+    make_items(spec, &marks, draws, into)
 }
 
 /// Puts so many records after the bits.
 #[tactic(auto, using(crate::proofs::KindDraws::each))]
 fn make_each_record(
-    alloc: Global,
     spec: &Spec,
     count: u32,
     draws: &mut Draws,
@@ -126,7 +118,7 @@ fn make_each_record(
     let mut left = count;
     while left > 0 {
         left -= 1;
-        make_record(alloc, spec, draws, into)?;
+        make_record(spec, draws, into)?;
     }
     Ok(())
 }
@@ -140,7 +132,7 @@ fn make_body(alloc: Global, spec: &Spec, draws: &mut Draws) -> Result<Vec<u8>, A
 {
     let mut bits = BitString::new(alloc);
     let count = 1 + draws.draw() % 4;
-    make_each_record(alloc, spec, count, draws, &mut bits)?;
+    make_each_record(spec, count, draws, &mut bits)?;
     Ok(bits.into_octets())
 }
 

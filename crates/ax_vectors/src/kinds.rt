@@ -1,13 +1,11 @@
 //! Values drawn under kinds, at every depth.
-ghost use Rattle.std.specs.Prelude.{◌≡◌, ◌+◌, ◌^◌, ◌<◌, ◌≤◌, ◌==◌, [], ◌∷◌, ◌++◌, length, map, IfOk, OnOk};
-ghost use Rattle.std.specs.Option.{option_map};
+ghost use Rattle.std.specs.Prelude.{◌≡◌, ◌+◌, ◌^◌, ◌<◌, ◌==◌, [], ◌∷◌, ◌++◌, length, map, IfOk, OnOk};
 ghost use Rattle.ax_bits.specs.Bits.{AreBits, word};
 ghost use Rattle.ax_format.specs.InBounds.{InBounds, SlotsInBounds};
-ghost use Rattle.ax_format.specs.Lengths.{kind_of_slot};
 ghost use Rattle.ax_format.specs.Plain.{kind_tree, part_tree, fixed_tree, slot_tree, slots_tree};
 ghost use Rattle.ax_format.specs.Tree.{slot_and, no_slots, defined_slots, extended, counted, by_fx, explicit, compound};
 ghost use Rattle.ax_format.specs.Widths.{counter_width};
-ghost use Rattle.ax_vectors.specs.Made.{marks_made, octet_made, content_made, value_where, values_made, kind_made, makers};
+ghost use Rattle.ax_vectors.specs.Made.{subitem_made, marks_made, octet_made, values_made, kind_made, makers};
 ghost use Rattle.ax_vectors.specs.Making.{Adds, times};
 
 use crate::bit_string::BitString;
@@ -20,7 +18,6 @@ use std::alloc::{AllocError, Global};
 /// Puts what is drawn under a kind after the bits, where so many counted or wide kinds enclose it.
 #[cycle(make_value)]
 pub(crate) fn make_value(
-    alloc: Global,
     kind: &Kind,
     around: u32,
     draws: &mut Draws,
@@ -32,12 +29,10 @@ pub(crate) fn make_value(
     match kind {
         Kind::Fixed(fixed) => make_fixed(fixed, draws, into),
         Kind::Extended { last, parts } => make_extended(*last, parts, draws, into),
-        Kind::Counted { counter, inner } => {
-            make_counted(alloc, *counter, inner, around, draws, into)
-        }
+        Kind::Counted { counter, inner } => { make_counted(*counter, inner, around, draws, into) }
         Kind::ByFx(fixed) => make_occurrences(fixed, draws, into),
         Kind::Explicit => make_explicit(draws, into),
-        Kind::Compound(slots) => make_compound(alloc, slots, around, draws, into),
+        Kind::Compound(slots) => make_compound(slots, around, draws, into),
     }
 }
 
@@ -113,7 +108,6 @@ fn push_count(size: Counter, count: u32, into: &mut BitString) -> Result<(), All
 #[cycle(make_value)]
 #[tactic(auto, using(crate::proofs::KindDraws::counted_adds))]
 fn make_counted(
-    alloc: Global,
     size: Counter,
     inner: &Kind,
     around: u32,
@@ -128,14 +122,13 @@ fn make_counted(
     }
     let count = draws.draw() % 3;
     push_count(size, count, into)?;
-    make_each(alloc, inner, count, around + 1, draws, into)
+    make_each(inner, count, around + 1, draws, into)
 }
 
 /// So many values of one kind.
 #[cycle(make_value)]
 #[tactic(auto, using(crate::proofs::KindDraws::each))]
 fn make_each(
-    alloc: Global,
     kind: &Kind,
     count: u32,
     around: u32,
@@ -148,7 +141,7 @@ fn make_each(
     let mut left = count;
     while left > 0 {
         left -= 1;
-        make_value(alloc, kind, around, draws, into)?;
+        make_value(kind, around, draws, into)?;
     }
     Ok(())
 }
@@ -157,7 +150,6 @@ fn make_each(
 #[cycle(make_value)]
 #[tactic(auto, using(crate::proofs::SlotDraws::compounds))]
 fn make_compound(
-    alloc: Global,
     slots: &Slots,
     around: u32,
     draws: &mut Draws,
@@ -166,9 +158,9 @@ fn make_compound(
     requires { InBounds (compound (slots_tree slots.now)) }
     ensures { OnOk result (Adds (kind_made around (compound (slots_tree slots.now))) into.old into.new draws.old draws.new) }
 {
-    let marks = draw_marks(alloc, slots, draws)?;
+    let marks = draw_marks(into.alloc(), slots, draws)?;
     make_field(&marks, draws, into)?;
-    make_marked(alloc, slots, &marks, around, draws, into)
+    make_marked(slots, &marks, around, draws, into)
 }
 
 /// Whether the slot is a subitem's.
@@ -200,7 +192,6 @@ fn draw_marks(alloc: Global, slots: &Slots, draws: &mut Draws) -> Result<Vec<u8>
 #[cycle(make_value)]
 #[tactic(auto, using(crate::proofs::SlotDraws::slot_values))]
 fn make_marked(
-    alloc: Global,
     slots: &Slots,
     marks: &[u8],
     around: u32,
@@ -211,7 +202,7 @@ fn make_marked(
     ensures { OnOk result (Adds (values_made (makers around (slots_tree slots.now)) marks.now) into.old into.new draws.old draws.new) }
 {
     for (slot, mark) in slots.as_slice().iter().zip(marks) {
-        make_subitem(alloc, slot, *mark == 1, around, draws, into)?;
+        make_subitem(slot, *mark == 1, around, draws, into)?;
     }
     Ok(())
 }
@@ -219,7 +210,6 @@ fn make_marked(
 /// Puts the value of a slot after the bits, where it is marked and not spare.
 #[cycle(make_value)]
 fn make_subitem(
-    alloc: Global,
     slot: &Slot,
     is_marked: bool,
     around: u32,
@@ -227,10 +217,10 @@ fn make_subitem(
     into: &mut BitString,
 ) -> Result<(), AllocError>
     requires { SlotsInBounds (slot_and (slot_tree slot.now) no_slots) }
-    ensures { OnOk result (Adds (value_where is_marked (option_map (kind_made around) (kind_of_slot (slot_tree slot.now)))) into.old into.new draws.old draws.new) }
+    ensures { OnOk result (Adds (subitem_made is_marked around slot.now) into.old into.new draws.old draws.new) }
 {
     match slot {
-        Slot::Sub { kind, .. } if is_marked => make_value(alloc, kind, around, draws, into),
+        Slot::Sub { kind, .. } if is_marked => make_value(kind, around, draws, into),
         _ => Ok(()),
     }
 }

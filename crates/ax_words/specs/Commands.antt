@@ -36,6 +36,10 @@ leaf_shape name rules = record (new_shape name) { rules = rules }
 abbrev pub leaf : Text → List Rule → App
 leaf name rules = record { top = leaf_shape name rules; subs = [] }
 
+-- a subcommand with three words
+abbrev pub leaf_of_three : Text → Text → Text → Text → App
+leaf_of_three name first second third = leaf name (one_word first ∷ one_word second ∷ one_word third ∷ [])
+
 abbrev pub shape_of_verb : Verb → Shape
 shape_of_verb verb = leaf_shape (name_of verb) (rules_of verb)
 

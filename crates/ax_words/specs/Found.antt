@@ -1,9 +1,11 @@
 -- What clap finds of the words after a verb.
-use Rattle.std.specs.Prelude.{List, [], ◌∷◌, Some, None, codes, take, drop}
+use Rattle.std.specs.Prelude.{◌≡◌, ◌⊎◌, List, [], ◌∷◌, Option, Some, None, codes, take, drop}
 use Rattle.clap.specs.Values.{reading_of}
-use Rattle.clap.specs.Walk.{Row, Text}
+use Rattle.clap.specs.Walk.{Found, Row, Text, all_of, first_of, rows_of}
 use Rattle.clap.specs.declared.builder.value_parser.ValueParser.TheVariants as parser
 use Rattle.clap.specs.declared.parser.matches.ValueSource.TheVariants.{CommandLine}
+use Rattle.ax_words.specs.declared.error.WordsError.{WordsError}
+use Rattle.ax_words.specs.declared.error.WordsError.TheVariants.{OutOfMemory}
 use Rattle.ax_words.specs.declared.verb.Verb.{Verb}
 use Rattle.ax_words.specs.declared.verb.Verb.TheVariants as VerbOf
 
@@ -22,3 +24,15 @@ found VerbOf.Expand words = given_two (codes "SPEC") (codes "EXPANSION") words
 found VerbOf.Convert words = given_two (codes "OLD") (codes "NEW") words
 found VerbOf.Trial words = given (codes "SPEC") (take 1 words) ∷ given_two (codes "SEED") (codes "COUNT") (drop 1 words)
 found _ words = given (codes "SPEC") words ∷ []
+
+-- the first word that was found under that name
+abbrev pub word_under : Text → Found → Option Text
+word_under id all = first_of id (rows_of all)
+
+-- the words that were found for SPEC
+abbrev pub spec_words : Found → Option (List Text)
+spec_words all = all_of (codes "SPEC") (rows_of all)
+
+-- none were, or memory ran out
+abbrev pub LacksSpecs : Found → WordsError → Type 0
+LacksSpecs all e = (e ≡ OutOfMemory) ⊎ (spec_words all ≡ None)

@@ -2,7 +2,7 @@
 ghost use Rattle.std.specs.Prelude.{◌≡◌, IfOk, false, [], ◌∷◌};
 ghost use Rattle.clap.specs.Words.{app_of, rule_of, shape_of};
 ghost use Rattle.clap.specs.declared.builder.command.Command.TheViews.{out-Command as fields_of};
-ghost use Rattle.ax_words.specs.Commands.{one_word, some_words, leaf, shape_of_verb, bare, with_verb, program};
+ghost use Rattle.ax_words.specs.Commands.{one_word, some_words, leaf, leaf_of_three, shape_of_verb, bare, with_verb, program};
 
 use crate::verb::{VERBS, Verb};
 use clap::{Arg, Command};
@@ -76,7 +76,7 @@ fn with_three_words<'a>(
     second: &'a str,
     third: &'a str,
 ) -> Result<Command<'a>, AllocError>
-    ensures app { IfOk result (λ c. app_of c ≡ leaf name.entry.now (one_word first.entry.now ∷ one_word second.entry.now ∷ one_word third.entry.now ∷ [])) }
+    ensures app { IfOk result (λ c. app_of c ≡ leaf_of_three name.entry.now first.entry.now second.entry.now third.entry.now) }
     ensures local { IfOk result (λ c. (fields_of c).has_globals ≡ false) }
 {
     let command = with_two_words(alloc, name, first, second)?;

@@ -2,10 +2,10 @@
 ghost use Rattle.std.specs.Prelude.{◌≡◌, [], ◌∷◌, ◌⊎◌, ◌<◌, ◌≤◌, ◌^◌, ◌↔◌, IsTrue, Some, None, map, length, codes, IfOk, MatchResult};
 ghost use Rattle.std.specs.List.{AllByRecursion};
 ghost use Rattle.std.specs.String.{string_bytes};
-ghost use Rattle.clap.specs.Words.{first_of, all_of, rows_of, found_of};
+ghost use Rattle.clap.specs.Words.{rows_of, found_of};
+ghost use Rattle.ax_words.specs.Found.{LacksSpecs, spec_words, word_under};
 ghost use Rattle.ax_words.specs.Lines.{AnswersRows, HasFewFiles};
 ghost use Rattle.ax_words.specs.Words.{IsPlain, JudgesWords};
-ghost use Rattle.ax_words.specs.declared.error.WordsError.TheVariants as Fault;
 
 use crate::builder::command;
 use crate::error::WordsError;
@@ -46,7 +46,7 @@ fn are_plain(words: &[String]) -> bool
 /// The word of an argument that takes one.
 #[tactic(auto, using(crate::proofs::Getters::getters))]
 fn word_of<'w>(matches: &ArgMatches<'w>, id: &str) -> Result<&'w str, WordsError>
-    ensures { MatchResult result (λ word. first_of id.now (rows_of (found_of matches.now)) ≡ Some word.now) (λ e. first_of id.now (rows_of (found_of matches.now)) ≡ None) }
+    ensures { MatchResult result (λ w. word_under id.now (found_of matches.now) ≡ Some w.now) (λ e. word_under id.now (found_of matches.now) ≡ None) }
 {
     match matches.get_str(id) {
         Some(word) => Ok(word),
@@ -70,7 +70,7 @@ fn copied(alloc: Global, words: &[&str]) -> Result<WordTexts, AllocError>
 #[tactic(auto, using(crate::proofs::Getters::getters))]
 fn files_of(alloc: Global, matches: &ArgMatches<'_>) -> Result<WordTexts, WordsError>
     requires { HasFewFiles (rows_of (found_of matches.now)) }
-    ensures { MatchResult result (λ files. all_of (codes "SPEC") (rows_of (found_of matches.now)) ≡ Some files) (λ e. (e ≡ Fault.OutOfMemory) ⊎ (all_of (codes "SPEC") (rows_of (found_of matches.now)) ≡ None)) }
+    ensures { MatchResult result (λ files. spec_words (found_of matches.now) ≡ Some files) (λ e. LacksSpecs (found_of matches.now) e) }
 {
     match matches.get_strs("SPEC") {
         Some(words) => Ok(copied(alloc, words)?),

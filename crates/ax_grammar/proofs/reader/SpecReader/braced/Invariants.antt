@@ -5,9 +5,9 @@ use Rattle.ax_grammar.proofs.reader.SpecReader.braced.Given as goal
 
 abbrev pub invariant-loop-elements : goal.invariant-loop-elements
 invariant-loop-elements g l =
-    let rule = g.E.Element.rule in
+    let rule = g.E.Braced.rule in
     record {
-      read : with_front (map g.E.Element.tree l.elements) (list_at rule l.self) ≡ list_at rule l.initial.self;
+      read : with_front (map g.E.Braced.tree l.elements) (list_at rule l.self) ≡ list_at rule l.initial.self;
       few : length l.elements + length l.self ≤ length l.initial.self;
     }
 

@@ -1,8 +1,10 @@
 -- What clap finds of the words after a verb.
 use Rattle.std.specs.Prelude.{◌≡◌, ◌⊎◌, List, [], ◌∷◌, Option, Some, None, codes, take, drop}
 use Rattle.clap.specs.Values.{reading_of}
-use Rattle.clap.specs.Walk.{Found, Row, Text, all_of, first_of, rows_of}
+use Rattle.clap.specs.Walk.{Row, Text, all_of, first_of, rows_of}
+use Rattle.clap.specs.Words.{found_of}
 use Rattle.clap.specs.declared.builder.value_parser.ValueParser.TheVariants as parser
+use Rattle.clap.specs.declared.parser.matches.ArgMatches.{ArgMatches}
 use Rattle.clap.specs.declared.parser.matches.ValueSource.TheVariants.{CommandLine}
 use Rattle.ax_words.specs.declared.error.WordsError.{WordsError}
 use Rattle.ax_words.specs.declared.error.WordsError.TheVariants.{OutOfMemory}
@@ -26,13 +28,13 @@ found VerbOf.Trial words = given (codes "SPEC") (take 1 words) ∷ given_two (co
 found _ words = given (codes "SPEC") words ∷ []
 
 -- the first word that was found under that name
-abbrev pub word_under : Text → Found → Option Text
-word_under id all = first_of id (rows_of all)
+abbrev pub word_under : Text → ArgMatches → Option Text
+word_under id matches = first_of id (rows_of (found_of matches))
 
 -- the words that were found for SPEC
-abbrev pub spec_words : Found → Option (List Text)
-spec_words all = all_of (codes "SPEC") (rows_of all)
+abbrev pub spec_words : ArgMatches → Option (List Text)
+spec_words matches = all_of (codes "SPEC") (rows_of (found_of matches))
 
 -- none were, or memory ran out
-abbrev pub LacksSpecs : Found → WordsError → Type 0
-LacksSpecs all e = (e ≡ OutOfMemory) ⊎ (spec_words all ≡ None)
+abbrev pub LacksSpecs : ArgMatches → WordsError → Type 0
+LacksSpecs matches e = (e ≡ OutOfMemory) ⊎ (spec_words matches ≡ None)

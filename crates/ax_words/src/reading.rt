@@ -46,7 +46,7 @@ fn are_plain(words: &[String]) -> bool
 /// The word of an argument that takes one.
 #[tactic(auto, using(crate::proofs::Getters::getters))]
 fn word_of<'w>(matches: &ArgMatches<'w>, id: &str) -> Result<&'w str, WordsError>
-    ensures { MatchResult result (λ w. word_under id.now (found_of matches.now) ≡ Some w.now) (λ e. word_under id.now (found_of matches.now) ≡ None) }
+    ensures { MatchResult result (λ w. word_under id.now matches.now ≡ Some w.now) (λ e. word_under id.now matches.now ≡ None) }
 {
     match matches.get_str(id) {
         Some(word) => Ok(word),
@@ -70,7 +70,7 @@ fn copied(alloc: Global, words: &[&str]) -> Result<WordTexts, AllocError>
 #[tactic(auto, using(crate::proofs::Getters::getters))]
 fn files_of(alloc: Global, matches: &ArgMatches<'_>) -> Result<WordTexts, WordsError>
     requires { HasFewFiles (rows_of (found_of matches.now)) }
-    ensures { MatchResult result (λ files. spec_words (found_of matches.now) ≡ Some files) (λ e. LacksSpecs (found_of matches.now) e) }
+    ensures { MatchResult result (λ files. spec_words matches.now ≡ Some files) (λ e. LacksSpecs matches.now e) }
 {
     match matches.get_strs("SPEC") {
         Some(words) => Ok(copied(alloc, words)?),

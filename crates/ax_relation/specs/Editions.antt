@@ -1,7 +1,8 @@
 -- What is held of two editions.
-use Rattle.std.specs.Prelude.{◌≡◌, List, map}
+use Rattle.std.specs.Prelude.{◌≡◌, ℕ, Bool, List, None, map}
 use Rattle.ax_format.specs.OfCode.{HasNoFlaw}
 use Rattle.ax_format.specs.Plain.{spec_tree}
+use Rattle.ax_format.specs.Shared.{Shared}
 use Rattle.ax_format.specs.declared.spec.Spec.{Spec}
 use Rattle.ax_relation.specs.Known.{IsKnown}
 use Rattle.ax_relation.specs.PlainMoves.{move_tree}
@@ -29,3 +30,7 @@ pub record Editions (paths : List RelationPath) (known : Known) (moves : List Mo
 
 abbrev pub AreOfEditions : List RelationPath → Known → List Move → Type 0
 AreOfEditions paths known moves = ∥ Editions paths known moves ∥₁
+
+-- whether the path is a named path of the old edition that the new one shares
+abbrev pub shares_path : Spec → Spec → List (List ℕ) → Bool
+shares_path old new path = Shared (spec_tree old) (spec_tree new) (record { names = path; part = None })

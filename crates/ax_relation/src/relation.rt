@@ -1,9 +1,9 @@
 //! The relation of two editions.
-ghost use Rattle.std.specs.Prelude.{◌≡◌, None};
+ghost use Rattle.std.specs.Prelude.{◌≡◌};
 ghost use Rattle.ax_format.specs.Plain.{spec_tree};
-ghost use Rattle.ax_format.specs.Shared.{Shared, Common};
+ghost use Rattle.ax_format.specs.Shared.{Common};
 ghost use Rattle.ax_format.specs.declared.spec.Spec.{Spec};
-ghost use Rattle.ax_relation.specs.Editions.{AreOf, AreOfEditions};
+ghost use Rattle.ax_relation.specs.Editions.{AreOf, AreOfEditions, shares_path};
 
 use crate::known::Known;
 use crate::moves::Moves;
@@ -50,7 +50,7 @@ impl Relation {
     /// Whether the path is a named path of the old edition that the new one shares. Takes no memory.
     #[tactic(auto, using(crate::proofs::SharedPaths::sharing))]
     pub fn shared(&self, path: &Path) -> bool
-        ensures { (old new : Spec) → AreOf old new self.now.paths self.now.known self.now.moves → result ≡ Shared (spec_tree old) (spec_tree new) (record { names = path.now; part = None }) }
+        ensures { (old new : Spec) → AreOf old new self.now.paths self.now.known self.now.moves → result ≡ shares_path old new path.now }
     {
         self.known.get(path.as_slice()).path
     }

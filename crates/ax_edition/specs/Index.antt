@@ -3,9 +3,10 @@ use Rattle.std.specs.Prelude.{◌≡◌, ℕ, zero, suc, List, slice_get, Option
 use Rattle.std.specs.Borrow.{Bor}
 use Rattle.ax_edition.specs.Numbers.{numbered}
 use Rattle.ax_edition.specs.declared.index.Index.{Index}
+use Rattle.ax_edition.specs.declared.index.NamedSlot.{NamedSlot}
 use Rattle.ax_format.specs.Naming.{slot_named}
 use Rattle.ax_format.specs.Plain.{kind_tree}
-use Rattle.ax_format.specs.Tree.{KindTree, SlotsTree}
+use Rattle.ax_format.specs.Tree.{KindTree, SlotTree, SlotsTree, subitem}
 use Rattle.ax_format.specs.declared.kind.Kind.{Kind}
 use Rattle.ax_relation.specs.Below.{slot_below}
 
@@ -30,3 +31,7 @@ pub record Finds (n : ℕ) (ss : SlotsTree) (index : Index) : Type 0 where
 
 pub record FindsBelow (kind : Option KindTree) (index : Index) : Type 0 where
   pub finds : (name : List ℕ) → found index name ≡ option_and_then (slot_below name) kind
+
+-- a slot of that name and kind
+abbrev pub slot_of : NamedSlot → KindTree → SlotTree
+slot_of slot k = subitem slot.name.now k

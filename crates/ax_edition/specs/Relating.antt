@@ -1,10 +1,13 @@
 -- The relation of two editions as it is made, path by path of the old edition. What stands at a path of the new edition is
 -- the slot numbers on the way to it, and its kind.
 use Rattle.std.specs.Prelude.{◌≡◌, ℕ, ◌+◌, nat_lt, if◌then◌else◌, List, [], ◌∷◌, ◌++◌, Option, Some, None, option_map, option_and_then}
-use Rattle.ax_edition.specs.Index.{found}
+use Rattle.ax_edition.specs.Index.{found, slot_of}
 use Rattle.ax_relation.specs.Below.{slot_below}
+use Rattle.ax_edition.specs.declared.index.NamedSlot.{NamedSlot}
+use Rattle.ax_edition.specs.declared.relating.Keys.{Keys}
 use Rattle.ax_edition.specs.declared.relating.Level.{Level}
 use Rattle.ax_edition.specs.declared.relating.Target.{Target}
+use Rattle.ax_edition.specs.declared.relating.Way.{Way}
 use Rattle.ax_relation.specs.declared.relation.RelationPath.{RelationPath}
 use Rattle.ax_format.specs.Paths.{at, three_digits}
 use Rattle.ax_format.specs.Named.{with_part}
@@ -88,3 +91,31 @@ related_slot text numbers s (subitem name k) rule = related_kind (at text name) 
 -- the keys of the slots of a record of that category, where a record of the new edition has the second ones
 abbrev pub related_between : ℕ → SlotsTree → SlotsTree → List RelationPath
 related_between category old new = related_slots (three_digits category) [] 1 old (below_target (Some ([], compound new)))
+
+-- ---- on the way to a path of the old edition
+
+-- the keys of a kind that stands there
+abbrev pub keys_of_kind : Way → KindTree → Option (List ℕ × KindTree) → List RelationPath
+keys_of_kind way k new = related_kind way.text way.numbers k new
+
+-- those of its parts, where so many first ones are shared
+abbrev pub keys_of_parts : Way → List MembersTree → ℕ → Option (List ℕ × KindTree) → List RelationPath
+keys_of_parts way ps shared new = related_parts way.text way.numbers 0 ps shared new
+
+-- those of its slots
+abbrev pub keys_of_slots : Way → SlotsTree → (List ℕ → Option (List ℕ × KindTree)) → List RelationPath
+keys_of_slots way ss rule = related_slots way.text way.numbers 1 ss rule
+
+-- those of its slot of the number n
+abbrev pub keys_of_slot : Way → ℕ → SlotTree → (List ℕ → Option (List ℕ × KindTree)) → List RelationPath
+keys_of_slot way n s rule = related_slot way.text way.numbers n s rule
+
+-- those of its slot of that name and kind
+abbrev pub keys_of_named : Way → NamedSlot → KindTree → (List ℕ → Option (List ℕ × KindTree)) → List RelationPath
+keys_of_named way slot k rule = keys_of_slot way slot.number (slot_of slot k) rule
+
+-- ---- the keys that were come to
+
+-- the second ones are the first and, behind them, these
+abbrev pub AddsPaths : Keys → Keys → List RelationPath → Type 0
+AddsPaths keys added paths = added.paths ≡ keys.paths ++ paths

@@ -22,6 +22,13 @@ pub struct Index<'k> {
     kinds: Kinds<'k>,
 }
 
+/// What a slot that isn't spare is found by: its number, from 1, and its name.
+#[derive(Clone, Copy)]
+pub struct NamedSlot<'k> {
+    pub number: u32,
+    pub name: &'k Name,
+}
+
 /// Appends a kind. A list of more than 2^32 - 1 members is a want of memory.
 fn push<'k>(kinds: &mut Kinds<'k>, kind: &Option<&'k Kind>) -> Result<(), AllocError>
     ensures { OnOk result (kinds.new ≡ kinds.old ++ kind.now ∷ []) }

@@ -71,23 +71,6 @@ fn know_kind(
     Ok(())
 }
 
-/// Enters the paths of a slot with that name and kind.
-#[cycle(know)]
-#[tactic(auto, using(crate::proofs::Saying::named_says))]
-fn know_named(
-    alloc: Global,
-    known: &mut Known,
-    names: &[Name],
-    name: &Name,
-    kind: &Kind,
-    index: &Index<'_>,
-) -> Result<(), AllocError>
-    ensures { OnOk result (Says (known_kind (names.now ++ name.now ∷ []) (kind_tree kind.now) (kind_found index.now name.now)) known.old known.new) }
-{
-    let below = with_name(alloc, names, name)?;
-    know_kind(alloc, known, below.as_slice(), kind, &kind_in(index, name))
-}
-
 /// Enters the paths of a slot.
 #[cycle(know)]
 #[tactic(auto, using(crate::proofs::Saying::one_slot))]
@@ -102,7 +85,10 @@ fn know_slot(
 {
     match slot {
         Slot::Spare => Ok(()),
-        Slot::Sub { name, kind } => know_named(alloc, known, names, name, kind, index),
+        Slot::Sub { name, kind } => {
+            let below = with_name(alloc, names, name)?;
+            know_kind(alloc, known, below.as_slice(), kind, &kind_in(index, name))
+        }
     }
 }
 
@@ -136,7 +122,11 @@ fn know_item(
 {
     match item {
         None => Ok(()),
-        Some(item) => know_named(alloc, known, &[], &item.name, &item.kind, index),
+        Some(item) => {
+            let below = with_name(alloc, &[], &item.name)?;
+            let new = kind_in(index, &item.name);
+            know_kind(alloc, known, below.as_slice(), &item.kind, &new)
+        }
     }
 }
 

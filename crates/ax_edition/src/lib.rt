@@ -12,7 +12,7 @@ mod relation;
 mod sameness;
 
 pub use ax_relation::{Move, Moves, Relation, RelationPath, RelationPaths};
-pub use index::{Index, index_below, index_items};
+pub use index::{Index, NamedSlot, index_below, index_items};
 pub use record_items::{SlotItems, slot_items};
 pub use relation::{RelateError, relate};
 pub use sameness::{is_shared, same_content, same_counter, same_last, same_parts, shared_parts};

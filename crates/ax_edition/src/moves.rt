@@ -1,15 +1,15 @@
 //! Which slots move where, found slot by slot of the new edition.
 ghost use Rattle.std.specs.Prelude.{◌≡◌, ◌++◌, ◌∷◌, [], IfOk, OnOk, map};
 ghost use Rattle.ax_format.specs.Plain.{kind_tree, slot_tree, slots_tree};
-ghost use Rattle.ax_edition.specs.Index.{found};
-ghost use Rattle.ax_relation.specs.Moves.{move_where, moves_below, moves_of, slot_moves};
+ghost use Rattle.ax_edition.specs.Index.{found, slot_of};
+ghost use Rattle.ax_relation.specs.Moves.{moves_below, moves_of, slot_moves};
 ghost use Rattle.ax_relation.specs.PlainMoves.{AddsMoves, move_tree};
 ghost use Rattle.ax_edition.specs.SlotItems.{item_slot, items_tree};
 
-use crate::index::{Index, index_below};
+use crate::index::{Index, NamedSlot, index_below};
 use crate::record_items::SlotItems;
 use crate::sameness::{is_shared, shared_parts};
-use ax_format::{Item, Kind, Name, Slot, Slots};
+use ax_format::{Item, Kind, Slot, Slots};
 use ax_relation::{Move, Moves};
 use std::alloc::{AllocError, Global};
 
@@ -23,20 +23,19 @@ fn push(moves: &mut Moves, one: Move) -> Result<(), AllocError>
     moves.push(one)
 }
 
-/// Appends the move to a new slot of that name, number and kind, if there is an old slot that it shares.
+/// Appends the move to a new slot that isn't spare, if there is an old slot that it shares.
 #[cycle(moves_of)]
 #[tactic(auto, using(crate::proofs::MoveLists::puts))]
 fn move_to(
     alloc: Global,
+    slot: NamedSlot<'_>,
     kind: &Kind,
-    name: &Name,
-    number: u32,
     old: &Index<'_>,
     moves: &mut Moves,
 ) -> Result<(), AllocError>
-    ensures { OnOk result (AddsMoves moves.old moves.new (move_where number (kind_tree kind.now) (found old.now name.now) (moves_below (kind_tree kind.now)))) }
+    ensures { OnOk result (AddsMoves moves.old moves.new (slot_moves slot.entry.number (slot_of slot.entry (kind_tree kind.now)) (found old.now))) }
 {
-    let Some((from, own)) = old.find(name) else {
+    let Some((from, own)) = old.find(slot.name) else {
         return Ok(());
     };
     if !is_shared(own, kind) {
@@ -48,7 +47,7 @@ fn move_to(
         moves,
         Move {
             old: from,
-            new: number,
+            new: slot.number,
             parts,
             below,
         },
@@ -83,7 +82,7 @@ fn move_slot(
 {
     match slot {
         Slot::Spare => Ok(()),
-        Slot::Sub { name, kind } => move_to(alloc, kind, name, number, old, moves),
+        Slot::Sub { name, kind } => move_to(alloc, NamedSlot { number, name }, kind, old, moves),
     }
 }
 
@@ -113,7 +112,13 @@ fn move_item(
 {
     match item {
         None => Ok(()),
-        Some(item) => move_to(alloc, &item.kind, &item.name, number, old, moves),
+        Some(item) => {
+            let named = NamedSlot {
+                number,
+                name: &item.name,
+            };
+            move_to(alloc, named, &item.kind, old, moves)
+        }
     }
 }
 

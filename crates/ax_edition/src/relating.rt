@@ -1,12 +1,13 @@
 //! The keys of the old edition, with their places in both.
 ghost use Rattle.std.specs.Prelude.{◌≡◌, ◌++◌, ◌∷◌, [], None, Some, IfOk, OnOk, map};
+ghost use Rattle.ax_format.specs.Paths.{at};
 ghost use Rattle.ax_format.specs.Placed.{place_from};
 ghost use Rattle.ax_format.specs.Plain.{kind_tree, part_tree, slot_tree, slots_tree};
-ghost use Rattle.ax_format.specs.Tree.{compound, subitem};
-ghost use Rattle.ax_edition.specs.Relating.{target_there, below_target, lead, LeadsBelow, shared_place, parts_with, part_place, related_here, related_part, related_parts, related_kind, related_slot, related_slots};
+ghost use Rattle.ax_format.specs.Tree.{compound};
+ghost use Rattle.ax_edition.specs.Relating.{target_there, below_target, lead, LeadsBelow, shared_place, parts_with, part_place, related_here, related_part, related_slots, keys_of_kind, keys_of_named, keys_of_parts, keys_of_slot, keys_of_slots, AddsPaths};
 ghost use Rattle.ax_edition.specs.SlotItems.{item_slot, items_tree};
 
-use crate::index::{Index, index_below, index_items};
+use crate::index::{Index, NamedSlot, index_below, index_items};
 use crate::record_items::SlotItems;
 use crate::sameness::{is_shared, shared_parts};
 use ax_format::{Item, Kind, Name, Parts, Place, Slot, Slots, Steps, Text, at_name, at_part};
@@ -18,6 +19,20 @@ use std::alloc::{AllocError, Global};
 struct Target<'k> {
     numbers: Steps,
     kind: &'k Kind,
+}
+
+/// The way to a path of the old edition: its text, and the slot numbers on it, the first of which is an FRN.
+#[derive(Drop)]
+struct Way {
+    text: Text,
+    numbers: Steps,
+}
+
+/// The keys of the old edition that were come to, in order.
+#[derive(Drop)]
+struct Keys {
+    alloc: Global,
+    paths: RelationPaths,
 }
 
 /// What stands below a path of the new edition, by name.
@@ -69,6 +84,19 @@ fn place_of(alloc: Global, numbers: &Steps) -> Result<Place, AllocError>
             frn: *frn,
             steps: steps_of(alloc, steps)?,
         }),
+    }
+}
+
+impl Way {
+    /// The way on to the slot of that name and number.
+    fn onto(&self, alloc: Global, name: &Name, number: u32) -> Result<Way, AllocError>
+        ensures text { IfOk result (λ way. way.text ≡ at self.now.text name.now) }
+        ensures numbers { IfOk result (λ way. way.numbers ≡ self.now.numbers ++ number ∷ []) }
+    {
+        Ok(Way {
+            text: at_name(alloc, &self.text, name)?,
+            numbers: with_number(alloc, &self.numbers, number)?,
+        })
     }
 }
 
@@ -154,30 +182,19 @@ fn place_of_part(
     }
 }
 
-/// Appends a key. A list of more than 2^32 - 1 keys is a want of memory.
-fn push_path(paths: &mut RelationPaths, path: RelationPath) -> Result<(), AllocError>
-    ensures { OnOk result (paths.new ≡ paths.old ++ path ∷ []) }
-{
-    if paths.count() == u32::MAX {
-        return Err(AllocError);
-    }
-    paths.push(path)
-}
-
 /// The key of a kind itself.
 fn path_for(
     alloc: Global,
-    text: &Text,
-    numbers: &Steps,
+    way: &Way,
     kind: &Kind,
     target: &Option<Target<'_>>,
 ) -> Result<RelationPath, AllocError>
-    ensures { IfOk result (λ path. path ≡ related_here text.now numbers.now None (kind_tree kind.now) (target_there target.now)) }
+    ensures { IfOk result (λ path. path ≡ related_here way.now.text way.now.numbers None (kind_tree kind.now) (target_there target.now)) }
 {
     Ok(RelationPath {
-        text: text.copy(alloc)?,
+        text: way.text.copy(alloc)?,
         part: None,
-        old: place_of(alloc, numbers)?,
+        old: place_of(alloc, &way.numbers)?,
         new: place_where_shared(alloc, kind, target)?,
     })
 }
@@ -185,169 +202,162 @@ fn path_for(
 /// The key of the part of that number, of which so many first ones are shared.
 fn part_for(
     alloc: Global,
-    text: &Text,
-    numbers: &Steps,
+    way: &Way,
     number: u32,
     shared: u32,
     target: &Option<Target<'_>>,
 ) -> Result<RelationPath, AllocError>
-    ensures { IfOk result (λ path. path ≡ related_part text.now numbers.now number shared (target_there target.now)) }
+    ensures { IfOk result (λ path. path ≡ related_part way.now.text way.now.numbers number shared (target_there target.now)) }
 {
     Ok(RelationPath {
-        text: at_part(alloc, text, number)?,
+        text: at_part(alloc, &way.text, number)?,
         part: Some(number),
-        old: place_of(alloc, numbers)?,
+        old: place_of(alloc, &way.numbers)?,
         new: place_of_part(alloc, number, shared, target)?,
     })
 }
 
-/// Appends the keys of parts, of which so many first ones are shared.
-#[tactic(auto, using(crate::proofs::PathLists::parts))]
-fn relate_parts(
-    alloc: Global,
-    paths: &mut RelationPaths,
-    text: &Text,
-    numbers: &Steps,
-    parts: &Parts,
-    shared: u32,
-    target: &Option<Target<'_>>,
-) -> Result<(), AllocError>
-    ensures { OnOk result (paths.new ≡ paths.old ++ related_parts text.now numbers.now 0 (map part_tree parts.now) shared (target_there target.now)) }
-{
-    let mut number: u32 = 0;
-    for _part in parts.as_slice() {
-        let path = part_for(alloc, text, numbers, number, shared, target)?;
-        push_path(paths, path)?;
-        number += 1;
-    }
-    Ok(())
-}
-
-/// Appends the key of a kind, and those of its parts or below.
-#[cycle(relate)]
-#[tactic(auto, using(crate::proofs::PathLists::kinds))]
-fn relate_kind(
-    alloc: Global,
-    paths: &mut RelationPaths,
-    text: &Text,
-    numbers: &Steps,
-    kind: &Kind,
-    target: &Option<Target<'_>>,
-) -> Result<(), AllocError>
-    ensures { OnOk result (paths.new ≡ paths.old ++ related_kind text.now numbers.now (kind_tree kind.now) (target_there target.now)) }
-{
-    let path = path_for(alloc, text, numbers, kind, target)?;
-    push_path(paths, path)?;
-    match kind {
-        Kind::Compound(slots) => {
-            relate_below(alloc, paths, text, numbers, slots, target)?;
+impl Keys {
+    /// Appends a key. A list of more than 2^32 - 1 keys is a want of memory.
+    fn push(&mut self, path: RelationPath) -> Result<(), AllocError>
+        ensures { OnOk result (AddsPaths self.old self.new (path ∷ [])) }
+    {
+        if self.paths.count() == u32::MAX {
+            return Err(AllocError);
         }
-        Kind::Extended { parts, .. } => {
-            let shared = parts_in_common(kind, target);
-            relate_parts(alloc, paths, text, numbers, parts, shared, target)?;
+        self.paths.push(path)
+    }
+
+    /// Appends the keys of parts, of which so many first ones are shared.
+    #[tactic(auto, using(crate::proofs::PathLists::parts))]
+    fn add_parts(
+        &mut self,
+        way: &Way,
+        parts: &Parts,
+        shared: u32,
+        target: &Option<Target<'_>>,
+    ) -> Result<(), AllocError>
+        ensures { OnOk result (AddsPaths self.old self.new (keys_of_parts way.now (map part_tree parts.now) shared (target_there target.now))) }
+    {
+        let mut number: u32 = 0;
+        for _part in parts.as_slice() {
+            let path = part_for(self.alloc, way, number, shared, target)?;
+            self.push(path)?;
+            number += 1;
         }
-        _ => {}
+        Ok(())
     }
-    Ok(())
-}
 
-/// Appends the keys of the slots of a compound, below a target.
-#[cycle(relate)]
-#[tactic(auto, using(crate::proofs::PathLists::slots_below))]
-fn relate_below(
-    alloc: Global,
-    paths: &mut RelationPaths,
-    text: &Text,
-    numbers: &Steps,
-    slots: &Slots,
-    target: &Option<Target<'_>>,
-) -> Result<(), AllocError>
-    ensures { OnOk result (paths.new ≡ paths.old ++ related_slots text.now numbers.now 1 (slots_tree slots.now) (below_target (target_there target.now))) }
-{
-    let level = Level::below(alloc, target)?;
-    relate_slots(alloc, paths, text, numbers, slots, &level)
-}
+    /// Appends the key of a kind, and those of its parts or below.
+    #[cycle(relate)]
+    #[tactic(auto, using(crate::proofs::PathLists::kinds))]
+    fn add_kind(
+        &mut self,
+        way: &Way,
+        kind: &Kind,
+        target: &Option<Target<'_>>,
+    ) -> Result<(), AllocError>
+        ensures { OnOk result (AddsPaths self.old self.new (keys_of_kind way.now (kind_tree kind.now) (target_there target.now))) }
+    {
+        let path = path_for(self.alloc, way, kind, target)?;
+        self.push(path)?;
+        match kind {
+            Kind::Compound(slots) => {
+                self.add_below(way, slots, target)?;
+            }
+            Kind::Extended { parts, .. } => {
+                let shared = parts_in_common(kind, target);
+                self.add_parts(way, parts, shared, target)?;
+            }
+            _ => {}
+        }
+        Ok(())
+    }
 
-/// Appends the keys of a slot with that name, number and kind.
-#[cycle(relate)]
-fn relate_named(
-    alloc: Global,
-    paths: &mut RelationPaths,
-    text: &Text,
-    numbers: &Steps,
-    number: u32,
-    name: &Name,
-    kind: &Kind,
-    level: &Level<'_>,
-) -> Result<(), AllocError>
-    ensures { OnOk result (paths.new ≡ paths.old ++ related_slot text.now numbers.now number (subitem name.now (kind_tree kind.now)) (lead level.now)) }
-{
-    let text = at_name(alloc, text, name)?;
-    let numbers = with_number(alloc, numbers, number)?;
-    let target = level.find(alloc, name)?;
-    relate_kind(alloc, paths, &text, &numbers, kind, &target)
-}
+    /// Appends the keys of the slots of a compound, below a target.
+    #[cycle(relate)]
+    #[tactic(auto, using(crate::proofs::PathLists::slots_below))]
+    fn add_below(
+        &mut self,
+        way: &Way,
+        slots: &Slots,
+        target: &Option<Target<'_>>,
+    ) -> Result<(), AllocError>
+        ensures { OnOk result (AddsPaths self.old self.new (keys_of_slots way.now (slots_tree slots.now) (below_target (target_there target.now)))) }
+    {
+        let level = Level::below(self.alloc, target)?;
+        self.add_slots(way, slots, &level)
+    }
 
-/// Appends the keys of a slot of that number.
-#[cycle(relate)]
-fn relate_slot(
-    alloc: Global,
-    paths: &mut RelationPaths,
-    text: &Text,
-    numbers: &Steps,
-    number: u32,
-    slot: &Slot,
-    level: &Level<'_>,
-) -> Result<(), AllocError>
-    ensures { OnOk result (paths.new ≡ paths.old ++ related_slot text.now numbers.now number (slot_tree slot.now) (lead level.now)) }
-{
-    match slot {
-        Slot::Spare => Ok(()),
-        Slot::Sub { name, kind } => {
-            relate_named(alloc, paths, text, numbers, number, name, kind, level)
+    /// Appends the keys of a slot that isn't spare.
+    #[cycle(relate)]
+    fn add_named(
+        &mut self,
+        way: &Way,
+        slot: NamedSlot<'_>,
+        kind: &Kind,
+        level: &Level<'_>,
+    ) -> Result<(), AllocError>
+        ensures { OnOk result (AddsPaths self.old self.new (keys_of_named way.now slot.entry (kind_tree kind.now) (lead level.now))) }
+    {
+        let below = way.onto(self.alloc, slot.name, slot.number)?;
+        let target = level.find(self.alloc, slot.name)?;
+        self.add_kind(&below, kind, &target)
+    }
+
+    /// Appends the keys of a slot of that number.
+    #[cycle(relate)]
+    fn add_slot(
+        &mut self,
+        way: &Way,
+        number: u32,
+        slot: &Slot,
+        level: &Level<'_>,
+    ) -> Result<(), AllocError>
+        ensures { OnOk result (AddsPaths self.old self.new (keys_of_slot way.now number (slot_tree slot.now) (lead level.now))) }
+    {
+        match slot {
+            Slot::Spare => Ok(()),
+            Slot::Sub { name, kind } => {
+                let named = NamedSlot { number, name };
+                self.add_named(way, named, kind, level)
+            }
         }
     }
-}
 
-/// Appends the keys of the slots of a compound.
-#[cycle(relate)]
-#[tactic(auto, using(crate::proofs::PathLists::slots))]
-fn relate_slots(
-    alloc: Global,
-    paths: &mut RelationPaths,
-    text: &Text,
-    numbers: &Steps,
-    slots: &Slots,
-    level: &Level<'_>,
-) -> Result<(), AllocError>
-    ensures { OnOk result (paths.new ≡ paths.old ++ related_slots text.now numbers.now 1 (slots_tree slots.now) (lead level.now)) }
-{
-    let mut before: u32 = 0;
-    for slot in slots.as_slice() {
-        relate_slot(alloc, paths, text, numbers, before + 1, slot, level)?;
-        before += 1;
+    /// Appends the keys of the slots of a compound.
+    #[cycle(relate)]
+    #[tactic(auto, using(crate::proofs::PathLists::slots))]
+    fn add_slots(&mut self, way: &Way, slots: &Slots, level: &Level<'_>) -> Result<(), AllocError>
+        ensures { OnOk result (AddsPaths self.old self.new (keys_of_slots way.now (slots_tree slots.now) (lead level.now))) }
+    {
+        let mut before: u32 = 0;
+        for slot in slots.as_slice() {
+            self.add_slot(way, before + 1, slot, level)?;
+            before += 1;
+        }
+        Ok(())
     }
-    Ok(())
-}
 
-/// Appends the keys of a slot of the UAP of that number.
-fn relate_item(
-    alloc: Global,
-    paths: &mut RelationPaths,
-    text: &Text,
-    number: u32,
-    item: &Option<&Item>,
-    level: &Level<'_>,
-) -> Result<(), AllocError>
-    ensures { OnOk result (paths.new ≡ paths.old ++ related_slot text.now [] number (item_slot item.now) (lead level.now)) }
-{
-    match item {
-        None => Ok(()),
-        Some(item) => {
-            let none = Steps::new(alloc);
-            relate_named(
-                alloc, paths, text, &none, number, &item.name, &item.kind, level,
-            )
+    /// Appends the keys of a slot of the UAP of that number.
+    fn add_item(
+        &mut self,
+        way: &Way,
+        number: u32,
+        item: &Option<&Item>,
+        level: &Level<'_>,
+    ) -> Result<(), AllocError>
+        ensures { OnOk result (AddsPaths self.old self.new (keys_of_slot way.now number (item_slot item.now) (lead level.now))) }
+    {
+        match item {
+            None => Ok(()),
+            Some(item) => {
+                let named = NamedSlot {
+                    number,
+                    name: &item.name,
+                };
+                self.add_named(way, named, &item.kind, level)
+            }
         }
     }
 }
@@ -356,17 +366,24 @@ fn relate_item(
 #[tactic(auto, using(crate::proofs::PathLists::items))]
 pub(crate) fn relate_items(
     alloc: Global,
-    text: &Text,
+    text: Text,
     items: &SlotItems<'_>,
     level: &Level<'_>,
 ) -> Result<RelationPaths, AllocError>
-    ensures { IfOk result (λ made. made ≡ related_slots text.now [] 1 (items_tree items.now) (lead level.now)) }
+    ensures { IfOk result (λ made. made ≡ related_slots text [] 1 (items_tree items.now) (lead level.now)) }
 {
-    let mut paths = RelationPaths::new(alloc);
+    let way = Way {
+        text,
+        numbers: Steps::new(alloc),
+    };
+    let mut keys = Keys {
+        alloc,
+        paths: RelationPaths::new(alloc),
+    };
     let mut before: u32 = 0;
     for item in items.as_slice() {
-        relate_item(alloc, &mut paths, text, before + 1, item, level)?;
+        keys.add_item(&way, before + 1, item, level)?;
         before += 1;
     }
-    Ok(paths)
+    Ok(keys.paths)
 }

@@ -43,7 +43,7 @@ fn paths_between(
 {
     let text = of_category(alloc, category)?;
     let level = Level::of_record(alloc, new)?;
-    relate_items(alloc, &text, old, &level)
+    relate_items(alloc, text, old, &level)
 }
 
 /// The paths of the old items, each with what the new ones share at it.

@@ -10,6 +10,7 @@ pub mod KnowingSteps
 pub mod LaidBits
 pub mod LaidRuns
 pub mod LostRuns
+pub mod MoveSizes
 pub mod MovedCanon
 pub mod MovedMarks
 pub mod MovesBySlot

@@ -3,13 +3,17 @@ use Rattle.std.specs.Prelude.{◌≡◌, ℕ, zero, suc, ◌+◌, ◌≤◌, ◌
 use Rattle.ax_fspec.specs.Marks.{IsMarked, no_marks}
 use Rattle.ax_relation.specs.declared.relation.RelationPath.{RelationPath}
 use Rattle.ax_relation.specs.Standing.{value_below}
+use Rattle.ax_migration.specs.Finding.{record_losses}
+use Rattle.ax_migration.specs.Losing.{lost_lines}
 use Rattle.ax_migration.specs.declared.losses.LossEntry.{LossEntry}
 use Rattle.ax_moves.specs.Gone.{gone}
 use Rattle.ax_moves.specs.Octets.{with_slot}
 use Rattle.ax_moves.specs.declared.lost.LostKey.{LostKey}
 use Rattle.ax_moves.specs.declared.lost.Run.{Run}
+use Rattle.ax_moves.specs.declared.telling.LostBelow.{LostBelow}
+use Rattle.ax_moves.specs.declared.telling.RecordName.{RecordName}
 use Rattle.ax_format.specs.Placed.{has_part, has_part_where}
-use Rattle.ax_format.specs.Tree.{ValueTree}
+use Rattle.ax_format.specs.Tree.{EntriesTree, ValueTree}
 use Rattle.ax_walk.specs.Shown.{item_value}
 use Rattle.ax_walk.specs.declared.item.ItemView.{ItemView}
 
@@ -140,3 +144,13 @@ pub record IsPassed (r : Run) (behind : ℕ) (marks : List ℕ) : Type 0 where
 -- so many parts of the item are present
 pub record HasParts (item : ItemView) (n : ℕ) : Type 0 where
   pub each : (i : ℕ) → has_part (Some i) (item_value item) ≡ nat_lt i n
+
+-- ---- lines
+
+-- the lines of what a record loses of these keys below the value that they lead to
+abbrev pub lines_below : LostBelow → ValueTree → List ℕ
+lines_below lost v = lost_lines lost.name.block (losses_below lost.name.number lost.depth v lost.keys.now)
+
+-- the lines of what a record with these entries loses of these keys
+abbrev pub record_lines : RecordName → EntriesTree → List LostKey → List ℕ
+record_lines name es keys = lost_lines name.block (record_losses name.number es (key_paths keys))

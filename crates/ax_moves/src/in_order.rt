@@ -107,14 +107,7 @@ fn lay_marked(
                 continue;
             }
             end = lay_run(whole.body, start, stop, end, output);
-            end = lay_entry(
-                whole.codec,
-                whole,
-                &moves[place - 1],
-                &below[place - 1],
-                end,
-                output,
-            );
+            end = lay_entry(whole, &moves[place - 1], &below[place - 1], end, output);
             start = 0;
             stop = 0;
             continue;
@@ -166,6 +159,6 @@ pub fn lay_moved(
     if known.ordered {
         lay_in_order(whole, moves.as_slice(), known, at, output)
     } else {
-        lay_whole(whole.codec, whole, moves, &known.by_place, at, output)
+        lay_whole(whole, moves, &known.by_place, at, output)
     }
 }

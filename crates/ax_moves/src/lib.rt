@@ -25,4 +25,4 @@ pub use keeping::keeps;
 pub use laying::LONGEST;
 pub use leading::is_there;
 pub use lost::{LostKey, lost_keys};
-pub use telling::{tell_keys, tell_record};
+pub use telling::{LostBelow, RecordName, tell_keys, tell_record};

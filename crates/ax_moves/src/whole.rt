@@ -5,7 +5,15 @@ ghost use Rattle.ax_format.specs.At.{slot_value};
 ghost use Rattle.ax_walk.specs.Placing.{IsPlaced};
 ghost use Rattle.ax_walk.specs.Shown.{item_value};
 
+use ax_codec::Codec;
 use ax_walk::{FoundItem, PlacedSlots};
+
+/// An item that was found, and the codec that it is read by.
+#[derive(Clone, Copy)]
+pub struct CodedItem<'f, 'c, 'a> {
+    pub codec: &'c Codec,
+    pub found: &'f FoundItem<'c, 'a>,
+}
 
 /// The item of a slot. None comes exactly where it isn't marked.
 #[inline(always)]

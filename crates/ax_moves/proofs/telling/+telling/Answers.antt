@@ -17,7 +17,7 @@ use Rattle.ax_moves.proofs.telling.+telling.Goals.{tell_keys-in-Some-item_of, te
 
 pub tell_inside-tell_keys-requires : goal.tell_inside-tell_keys-requires
 tell_inside-tell_keys-requires t c =
-    let item = c.args.item.now in
+    let item = c.args.item.found.now.item in
     let own = item.codec.now in
     let placed = placed_by _ own c.in-Compound.slots item.body.now 0 c.place_subitems.new.places (length item.body.now) c.requires.codec (sym c.as_slice.ensures.members) (sym c.octets.ensures.body) refl refl
     (compound_links own.nodes item.link c.node.result.now own.table item.item.some item.item.within c.node.ensures c.in-Compound.mask c.in-Compound.slots c.in-Compound.slots c.in-Compound.is refl)
@@ -26,7 +26,7 @@ tell_inside-tell_keys-requires t c =
 
 pub tell_inside-tell_parts-requires : goal.tell_inside-tell_parts-requires
 tell_inside-tell_parts-requires t c =
-    let item = c.args.item.now in
+    let item = c.args.item.found.now.item in
     record {
       leaf = no_compound item.codec.now item.link item.by_fx item.body.now c.node.result.now item.item c.node.ensures c.node.result.now refl c.in_default.not-Compound;
       runs = c.requires.runs;
@@ -35,16 +35,16 @@ tell_inside-tell_parts-requires t c =
 
 pub tell_inside-returns-else-loses_nothing-clause-told : goal.tell_inside-returns-else-loses_nothing-clause-told
 tell_inside-returns-else-loses_nothing-clause-told t c =
-    subst (λ v. Gathers (lost_lines c.args.block (losses_below c.args.number c.args.depth v c.args.keys.now)) c.args.at c.tell_keys.result c.args.lines.now c.tell_keys.new.lines)
-    (compound_value c.args.item.now c.node.result.now c.node.ensures c.in-Compound.mask c.in-Compound.slots c.as_slice.result.now c.octets.result.now c.args.codec.now c.in-Compound.is (sym c.as_slice.ensures.members) (sym c.octets.ensures.body) c.requires.codec)
+    subst (λ v. Gathers (lost_lines c.args.lost.now.name.block (losses_below c.args.lost.now.name.number c.args.lost.now.depth v c.args.lost.now.keys.now)) c.args.at c.tell_keys.result c.args.lines.now c.tell_keys.new.lines)
+    (compound_value c.args.item.found.now.item c.node.result.now c.node.ensures c.in-Compound.mask c.in-Compound.slots c.as_slice.result.now c.octets.result.now c.args.item.codec.now c.in-Compound.is (sym c.as_slice.ensures.members) (sym c.octets.ensures.body) c.requires.codec)
     c.tell_keys.ensures.told
 
 pub tell_keys-loop-index-preserved-in_default : goal.tell_keys-loop-index-preserved-in_default
 tell_keys-loop-index-preserved-in_default t c =
     let k = c.index-keys-index.result in
-    let past : length k.runs.items ≤ c.args.depth = omega (arith, c.in_default.ensures.lookup.3, ap length c.deref.ensures.value) in
+    let past : length k.runs.items ≤ c.args.lost.now.depth = omega (arith, c.in_default.ensures.lookup.3, ap length c.deref.ensures.value) in
     record {
-      told = own_told c.args.block c.args.number c.args.depth (whole_entries c.args.whole.now) c.args.keys.now c.loop-index.index k c.args.at c.loop-index.end c.args.lines.now c.loop-index.lines c.loop-index.invariant.told c.loop-index-test.true c.index-keys-index.is
+      told = own_told c.args.lost.now.name.block c.args.lost.now.name.number c.args.lost.now.depth (whole_entries c.args.whole.now) c.args.lost.now.keys.now c.loop-index.index k c.args.at c.loop-index.end c.args.lines.now c.loop-index.lines c.loop-index.invariant.told c.loop-index-test.true c.index-keys-index.is
           c.tell_own-end.result c.tell_own-end.new.lines past c.tell_own-end.ensures.told;
       within = omega (arith, c.loop-index-test.true);
     }
@@ -54,10 +54,10 @@ tell_keys-returns-then-is_passed-clause-told t c =
     let k = c.index-keys-index.result in
     let r = c.in-Some.run'.now in
     let es = whole_entries c.args.whole.now in
-    let within : c.args.depth < length k.runs.items = omega (arith, c.in-Some.ensures.lookup.3.0, ap length c.deref.ensures.value) in
-    all_told c.args.block c.args.number c.args.depth es c.args.keys.now c.loop-index.index k c.args.at c.loop-index.end c.args.lines.now c.loop-index.lines c.loop-index.invariant.told c.loop-index-test.true c.index-keys-index.is
-    r within (c.in-Some.ensures.lookup.1 ∙ ap (λ rs. get_or rs c.args.depth r) c.deref.ensures.value)
-    c.marked-marked.result (length c.args.keys.now - c.loop-index.index - 1) (λ s not. c.requires.placed.placed.others s (λ h. not (subst (λ m. IsMarked m s) (sym c.marked-marked.ensures) h))) refl (c.is_passed.ensures c.if-is_passed.true)
+    let within : c.args.lost.now.depth < length k.runs.items = omega (arith, c.in-Some.ensures.lookup.3.0, ap length c.deref.ensures.value) in
+    all_told c.args.lost.now.name.block c.args.lost.now.name.number c.args.lost.now.depth es c.args.lost.now.keys.now c.loop-index.index k c.args.at c.loop-index.end c.args.lines.now c.loop-index.lines c.loop-index.invariant.told c.loop-index-test.true c.index-keys-index.is
+    r within (c.in-Some.ensures.lookup.1 ∙ ap (λ rs. get_or rs c.args.lost.now.depth r) c.deref.ensures.value)
+    c.marked-marked.result (length c.args.lost.now.keys.now - c.loop-index.index - 1) (λ s not. c.requires.placed.placed.others s (λ h. not (subst (λ m. IsMarked m s) (sym c.marked-marked.ensures) h))) refl (c.is_passed.ensures c.if-is_passed.true)
 
 pub tell_keys-tell_inside-end-requires : goal.tell_keys-tell_inside-end-requires
 tell_keys-tell_inside-end-requires t c =
@@ -65,14 +65,14 @@ tell_keys-tell_inside-end-requires t c =
     let r = c.in-Some.run'.now in
     let es = whole_entries c.args.whole.now in
     let index = c.loop-index.index in
-    let within : c.args.depth < length k.runs.items = omega (arith, c.in-Some.ensures.lookup.3.0, ap length c.deref.ensures.value) in
-    let at_depth = c.in-Some.ensures.lookup.1 ∙ ap (λ rs. get_or rs c.args.depth r) c.deref.ensures.value in
+    let within : c.args.lost.now.depth < length k.runs.items = omega (arith, c.in-Some.ensures.lookup.3.0, ap length c.deref.ensures.value) in
+    let at_depth = c.in-Some.ensures.lookup.1 ∙ ap (λ rs. get_or rs c.args.lost.now.depth r) c.deref.ensures.value in
     let m = index + (c.min-count.result + 1) - index in (
-      omega (arith, c.decreases, deeper c.args.block c.args.number c.args.depth es c.args.keys.now index k c.args.at c.loop-index.end c.args.lines.now c.loop-index.lines c.loop-index.invariant.told c.loop-index-test.true c.index-keys-index.is r within at_depth m),
+      omega (arith, c.decreases, deeper c.args.lost.now.name.block c.args.lost.now.name.number c.args.lost.now.depth es c.args.lost.now.keys.now index k c.args.at c.loop-index.end c.args.lines.now c.loop-index.lines c.loop-index.invariant.told c.loop-index-test.true c.index-keys-index.is r within at_depth m),
       (
         c.in-Some-item_of.ensures.place.codec_is,
         (
-          slot_runs c.args.block c.args.number c.args.depth es c.args.keys.now index k c.args.at c.loop-index.end c.args.lines.now c.loop-index.lines c.loop-index.invariant.told c.loop-index-test.true c.index-keys-index.is r within at_depth m,
+          slot_runs c.args.lost.now.name.block c.args.lost.now.name.number c.args.lost.now.depth es c.args.lost.now.keys.now index k c.args.at c.loop-index.end c.args.lines.now c.loop-index.lines c.loop-index.invariant.told c.loop-index-test.true c.index-keys-index.is r within at_depth m,
           search rules,
         ),
       ),
@@ -85,22 +85,22 @@ tell_keys-loop-index-preserved t c =
     let es = whole_entries c.args.whole.now in
     let index = c.loop-index.index in
     let count = c.min-count.result + 1 in
-    let within : c.args.depth < length k.runs.items = omega (arith, c.in-Some.ensures.lookup.3.0, ap length c.deref.ensures.value) in
-    let at_depth = c.in-Some.ensures.lookup.1 ∙ ap (λ rs. get_or rs c.args.depth r) c.deref.ensures.value in
+    let within : c.args.lost.now.depth < length k.runs.items = omega (arith, c.in-Some.ensures.lookup.3.0, ap length c.deref.ensures.value) in
+    let at_depth = c.in-Some.ensures.lookup.1 ∙ ap (λ rs. get_or rs c.args.lost.now.depth r) c.deref.ensures.value in
     let le : count ≤ suc r.more = omega (arith, c.min-count.ensures) in
-    let Told : ℕ → List ℕ → Type 0 = λ end lines. KeysTold c.args.block c.args.number c.args.depth (marked es) c.args.keys.now (drop (index + count) c.args.keys.now) c.args.at end c.args.lines.now lines in
+    let Told : ℕ → List ℕ → Type 0 = λ end lines. KeysTold c.args.lost.now.name.block c.args.lost.now.name.number c.args.lost.now.depth (marked es) c.args.lost.now.keys.now (drop (index + count) c.args.lost.now.keys.now) c.args.at end c.args.lines.now lines in
     record {
       told = elim c.match-item_of.branch [
         | tell_keys-in-Some-item_of w ↦ (
             let found = w.in-Some-item_of.found in
             let own : index + count - index ≡ count = omega arith in
-            let here = subst (λ m. Gathers (lost_lines c.args.block (losses_below c.args.number (c.args.depth + 1) (item_value found.item) (take m (drop index c.args.keys.now)))) c.loop-index.end w.tell_inside-end.result c.loop-index.lines w.tell_inside-end.new.lines) own w.tell_inside-end.ensures.told in
-            let told = slot_told c.args.block c.args.number c.args.depth es c.args.keys.now index k c.args.at c.loop-index.end c.args.lines.now c.loop-index.lines c.loop-index.invariant.told c.loop-index-test.true c.index-keys-index.is r within at_depth
+            let here = subst (λ m. Gathers (lost_lines c.args.lost.now.name.block (losses_below c.args.lost.now.name.number (c.args.lost.now.depth + 1) (item_value found.item) (take m (drop index c.args.lost.now.keys.now)))) c.loop-index.end w.tell_inside-end.result c.loop-index.lines w.tell_inside-end.new.lines) own w.tell_inside-end.ensures.told in
+            let told = slot_told c.args.lost.now.name.block c.args.lost.now.name.number c.args.lost.now.depth es c.args.lost.now.keys.now index k c.args.at c.loop-index.end c.args.lines.now c.loop-index.lines c.loop-index.invariant.told c.loop-index-test.true c.index-keys-index.is r within at_depth
             count w.tell_inside-end.result w.tell_inside-end.new.lines (item_value found.item) le w.in-Some-item_of.ensures.value here in
             subst (λ lines. Told c.match-item_of.end lines) (sym w.lines-is) (subst (λ end. Told end w.tell_inside-end.new.lines) (sym w.end-is) told))
         | tell_keys-in_default-item_of w ↦ (
             let none = sym (ap (option_map (λ (found : FoundItem). item_value found.item)) w.in_default-item_of.is) ∙ c.item_of.ensures.value in
-            let told = slot_skipped c.args.block c.args.number c.args.depth es c.args.keys.now index k c.args.at c.loop-index.end c.args.lines.now c.loop-index.lines c.loop-index.invariant.told c.loop-index-test.true c.index-keys-index.is r within at_depth count le none in
+            let told = slot_skipped c.args.lost.now.name.block c.args.lost.now.name.number c.args.lost.now.depth es c.args.lost.now.keys.now index k c.args.at c.loop-index.end c.args.lines.now c.loop-index.lines c.loop-index.invariant.told c.loop-index-test.true c.index-keys-index.is r within at_depth count le none in
             subst (λ lines. Told c.match-item_of.end lines) (sym w.lines-is) (subst (λ end. Told end c.loop-index.lines) (sym w.end-is) told))
       ];
       within = omega (arith, c.loop-index-test.true, c.min-count.ensures);
@@ -108,4 +108,4 @@ tell_keys-loop-index-preserved t c =
 
 pub tell_inside-returns-then-loses_nothing-clause-told : goal.tell_inside-returns-then-loses_nothing-clause-told
 tell_inside-returns-then-loses_nothing-clause-told t c =
-    subst (λ ls. Gathers (lost_lines c.args.block ls) c.args.at c.args.at c.args.lines.now c.args.lines.now) (sym (c.loses_nothing.ensures c.if-loses_nothing.true c.args.number)) (gathers_none c.args.at c.args.lines.now (omega (arith, c.ranges.at.fits)))
+    subst (λ ls. Gathers (lost_lines c.args.lost.now.name.block ls) c.args.at c.args.at c.args.lines.now c.args.lines.now) (sym (c.loses_nothing.ensures c.if-loses_nothing.true c.args.lost.now.name.number)) (gathers_none c.args.at c.args.lines.now (omega (arith, c.ranges.at.fits)))

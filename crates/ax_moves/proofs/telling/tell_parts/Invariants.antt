@@ -6,10 +6,10 @@ use Rattle.ax_moves.proofs.telling.tell_parts.Given as goal
 
 abbrev pub invariant-loop-index : goal.invariant-loop-index
 invariant-loop-index l = record {
-  told : KeysTold l.block l.number l.depth (item_value l.item) l.keys (drop l.index l.keys) l.at l.end l.fn.lines l.lines;
-  within : l.index ≤ length l.keys;
+  told : KeysTold l.lost.name.block l.lost.name.number l.lost.depth (item_value l.item) l.lost.keys.now (drop l.index l.lost.keys.now) l.at l.end l.fn.lines l.lines;
+  within : l.index ≤ length l.lost.keys.now;
   counted : IfSome l.counted (HasParts l.item);
 }
 
 abbrev pub decreases-loop-index : goal.decreases-loop-index
-decreases-loop-index l = length l.keys - l.index
+decreases-loop-index l = length l.lost.keys.now - l.index

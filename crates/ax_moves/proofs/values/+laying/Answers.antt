@@ -1,16 +1,15 @@
-use denote.Param.Weighed.{at_most}
 use Rattle.std.proofs.Common.{rules, ◌≡◌, ℕ, ◌-◌, ◌<◌, List, [], ◌∷◌, ◌++◌, arith, ap, sym, subst, refl, length, get_or, ◌∙◌, option_map, Option, IfSome, Vec, Global}
 use Rattle.ax_bits.specs.Bits.{bits}
-use Rattle.ax_relation.proofs.moves.Move.TheLaws.{the_size}
 use Rattle.ax_relation.specs.PlainMoves.{move_tree, moves_tree}
-use Rattle.ax_relation.specs.declared.moves.Move.{Move}
+use Rattle.ax_relation.specs.declared.moves.Move.{Move, out-Move}
 use Rattle.ax_fspec.specs.Fields.{least_field}
 use Rattle.ax_fspec.specs.Marks.{no_marks, slots_of}
 use Rattle.ax_moves.proofs.Entries.{none_laid, one_laid, all_laid, nothing_moves, nothing_laid, compound_there}
 use Rattle.ax_moves.proofs.ItemParts.{front_stays, octets_some}
 use Rattle.ax_moves.proofs.KeepingSteps.{leaf_canon_by}
-use Rattle.ax_moves.proofs.KnowingSteps.{known_at}
+use Rattle.ax_moves.proofs.KnowingSteps.{known_at, known_below}
 use Rattle.ax_moves.proofs.LaidBits.{lays_more}
+use Rattle.ax_moves.proofs.MoveSizes.{below_less, member_less}
 use Rattle.ax_moves.proofs.PlacesThere.{at_is, at_past, others_absent, place_laid, place_skips, places_entries, places_first, places_last, places_slots}
 use Rattle.ax_moves.specs.KnownMoves.{AreOthersAbsent, FindsEach, KnowsBelow, places_canon, places_marks}
 use Rattle.ax_moves.proofs.Slots.{placed_by, compound_node}
@@ -42,11 +41,10 @@ lay_entries-lay_entry-end-requires t c =
     let same = c.as_slice-moves.ensures.members in
     let within : i < length all = omega (arith, c.loop-index-test.true, ap length same) in
     let is : m ≡ get_or all i m = c.index-moves-index.is ∙ ap (λ ms. get_or ms i m) same in
-    let small = at_most the_size all i m within in
-    let same_size : the_size m ≡ the_size (get_or all i m) = ap the_size is in
+    let small = member_less all i m within is in
     let knows = subst (λ ks. KnowsBelow (moves_tree all) ks) (sym c.as_slice-known.ensures.members) c.requires.known in
     let known = (known_at all c.as_slice-known.result.now i m knows within is).1 c.index-known-index.result c.index-known-index.is in
-    (omega (arith, small, same_size, c.decreases), (c.requires.codec, (c.requires.placed, (known, search rules))))
+    (omega (arith, small, c.decreases), (c.requires.placed, (known, search rules)))
 
 pub lay_entries-loop-index-preserved : goal.lay_entries-loop-index-preserved
 lay_entries-loop-index-preserved t c =
@@ -59,7 +57,7 @@ lay_entries-returns-clause-laid t c =
     (all_laid c.as_slice-moves.result.now c.loop-index.index (whole_slots c.args.whole.now) (whole_entries c.args.whole.now) c.args.at c.loop-index.end c.args.output.now c.loop-index.output (omega (arith, c.loop-index-test.false)) c.loop-index.invariant)
 
 pub lay_there-loop-place-init : goal.lay_there-loop-place-init
-lay_there-loop-place-init t c = places_first (slots_of c.args.there) (moves_tree c.as_slice-moves.result.now) (whole_slots c.args.whole.now) (whole_entries c.args.whole.now) c.args.at c.args.output.now c.ranges.at.fits
+lay_there-loop-place-init t c = places_first (slots_of c.args.there.now.places) (moves_tree c.as_slice-moves.result.now) (whole_slots c.args.whole.now) (whole_entries c.args.whole.now) c.args.at c.args.output.now c.ranges.at.fits
 
 pub lay_there-bounds-known-index : goal.lay_there-bounds-known-index
 lay_there-bounds-known-index t c =
@@ -74,11 +72,10 @@ lay_there-lay_entry-end-requires t c =
     let same = c.as_slice-moves.ensures.members in
     let within : i < length all = omega (arith, c.if-index-moves.true, ap length same) in
     let is : m ≡ get_or all i m = c.index-moves-index.is ∙ ap (λ ms. get_or ms i m) same in
-    let small = at_most the_size all i m within in
-    let same_size : the_size m ≡ the_size (get_or all i m) = ap the_size is in
+    let small = member_less all i m within is in
     let knows = subst (λ ks. KnowsBelow (moves_tree all) ks) (sym c.as_slice-known.ensures.members) c.requires.known in
     let known = (known_at all c.as_slice-known.result.now i m knows within is).1 c.index-known-index.result c.index-known-index.is in
-    (omega (arith, small, same_size, c.decreases), (c.requires.codec, (c.requires.placed, (known, search rules))))
+    (omega (arith, small, c.decreases), (c.requires.placed, (known, search rules)))
 
 pub lay_there-loop-place-preserved-then-index-moves : goal.lay_there-loop-place-preserved-then-index-moves
 lay_there-loop-place-preserved-then-index-moves t c =
@@ -91,7 +88,7 @@ lay_there-loop-place-preserved t c =
 
 pub lay_there-returns-clause-laid : goal.lay_there-returns-clause-laid
 lay_there-returns-clause-laid t c =
-    subst (λ (ms : List Move). Lays (places_canon (slots_of c.args.there) (moves_tree ms) (whole_slots c.args.whole.now) (whole_entries c.args.whole.now)) c.args.at c.loop-place.end c.args.output.now c.loop-place.output) c.as_slice-moves.ensures.members
+    subst (λ (ms : List Move). Lays (places_canon (slots_of c.args.there.now.places) (moves_tree ms) (whole_slots c.args.whole.now) (whole_entries c.args.whole.now)) c.args.at c.loop-place.end c.args.output.now c.loop-place.output) c.as_slice-moves.ensures.members
     (places_last _ _ _ _ _ _ _ _ _ c.in_default.ensures.none c.loop-place.invariant)
 
 pub lay_entry-returns-in-None-clause-laid : goal.lay_entry-returns-in-None-clause-laid
@@ -101,22 +98,22 @@ lay_entry-returns-in-None-clause-laid t c =
 
 pub lay_anew-lay_whole-requires : goal.lay_anew-lay_whole-requires
 lay_anew-lay_whole-requires t c =
-    let item = c.args.item.now in
+    let item = c.args.item.found.now.item in
     let own = item.codec.now in
     let placed = placed_by _ own c.in-Compound.slots item.body.now 0 c.place_subitems.new.places (length item.body.now) c.requires.codec (sym c.as_slice.ensures.members) (sym c.octets.ensures.body) refl refl
     (compound_links own.nodes item.link c.node.result.now own.table item.item.some item.item.within c.node.ensures c.in-Compound.mask c.in-Compound.slots c.in-Compound.slots c.in-Compound.is refl)
     (c.place_subitems.ensures c.in-Compound.mask c.in-Compound.slots (compound_node own.nodes item.link c.node.result.now c.in-Compound.mask c.in-Compound.slots item.item.some item.item.within c.node.ensures c.in-Compound.is)) in
-    (search rules, (refl, (placed, (c.requires.known, c.requires.room))))
+    (omega (arith, below_less c.args.one.now, c.decreases), (placed, (known_below c.args.one.now c.args.known.now c.requires.known, c.requires.room)))
 
 pub lay_anew-returns-in-Compound-clause-laid : goal.lay_anew-returns-in-Compound-clause-laid
 lay_anew-returns-in-Compound-clause-laid t c =
     subst (λ b. Lays b c.args.at c.lay_whole.result c.args.output.now c.lay_whole.new.output)
-    (compound_there c.args.item.now c.node.result.now c.node.ensures c.args.count (moves_tree c.args.moves.now) c.in-Compound.mask c.in-Compound.slots c.as_slice.result.now c.octets.result.now c.args.codec.now c.in-Compound.is (sym c.as_slice.ensures.members) (sym c.octets.ensures.body) c.requires.codec)
+    (compound_there c.args.item.found.now.item c.node.result.now c.node.ensures (out-Move c.args.one.now).parts (moves_tree (out-Move c.args.one.now).below) c.in-Compound.mask c.in-Compound.slots c.as_slice.result.now c.octets.result.now c.args.item.codec.now c.in-Compound.is (sym c.as_slice.ensures.members) (sym c.octets.ensures.body) c.requires.codec)
     c.lay_whole.ensures.laid
 
 pub lay_anew-returns-in_default : goal.lay_anew-returns-in_default
 lay_anew-returns-in_default t c = record {
-  laid = subst (λ b. Lays b c.args.at c.lay_item.result c.args.output.now c.lay_item.new.output) (sym (leaf_canon_by c.args.item.now c.node.result.now c.node.ensures c.args.count (moves_tree c.args.moves.now) c.requires.whole c.in_default.not-Compound c.in_default.not-Extended)) c.lay_item.ensures.laid;
+  laid = subst (λ b. Lays b c.args.at c.lay_item.result c.args.output.now c.lay_item.new.output) (sym (leaf_canon_by c.args.item.found.now.item c.node.result.now c.node.ensures (out-Move c.args.one.now).parts (moves_tree (out-Move c.args.one.now).below) c.requires.whole c.in_default.not-Compound c.in_default.not-Extended)) c.lay_item.ensures.laid;
   room = c.lay_item.ensures.room;
 }
 
@@ -133,10 +130,10 @@ lay_whole-returns-clause-laid t c =
     let ms = moves_tree c.args.moves.now in
     let ss = whole_slots w in
     let es = whole_entries w in
-    let there = c.moves_there-there.result in
+    let there = c.moves_there.result in
     let finds = subst (λ (o : Option (Vec ℕ Global)). IfSome o (λ places. FindsEach ms places.items)) c.in-Some.is c.requires.known.0 in
     let all = others_absent w.places.now.marked c.as_slice.result.now ms es (subst (FindsEach ms) (sym c.as_slice.ensures.value) finds) (λ s m. (c.requires.placed.placed.there s m).small) c.requires.placed.placed.others in
-    let none = subst (λ x. AreOthersAbsent x ms es) (sym c.moves_there-there.ensures) all in
+    let none = subst (λ x. AreOthersAbsent x ms es) (sym c.moves_there.ensures) all in
     let set = c.slots_there-marked.ensures ∙ ap (λ l. places_marks (slots_of there) (moves_tree l) es no_marks) c.as_slice-2.ensures.members ∙ places_slots there ms es no_marks none in
     let field = subst (λ b. Lays b c.args.at c.lay_field-end-2.result c.args.output.now c.lay_field-end-2.new.output) (ap least_field set) c.lay_field-end-2.ensures.laid in
     let rest = subst (λ b. Lays b c.lay_field-end-2.result c.lay_there.result c.lay_field-end-2.new.output c.lay_there.new.output) (places_entries there ms ss es none) c.lay_there.ensures.laid in
@@ -144,17 +141,17 @@ lay_whole-returns-clause-laid t c =
 
 pub lay_value-returns-then-is_bare-clause-laid : goal.lay_value-returns-then-is_bare-clause-laid
 lay_value-returns-then-is_bare-clause-laid t c =
-    subst (λ b. Lays b c.args.at c.lay_octets-then-is_bare.result c.args.output.now c.lay_octets-then-is_bare.new.output) (sym (c.is_bare.ensures c.if-is_bare.true c.args.count (moves_tree c.args.moves.now)))
+    subst (λ b. Lays b c.args.at c.lay_octets-then-is_bare.result c.args.output.now c.lay_octets-then-is_bare.new.output) (sym (c.is_bare.ensures c.if-is_bare.true (out-Move c.args.one.now).parts (moves_tree (out-Move c.args.one.now).below)))
     (gathered_bits (0 ∷ []) c.args.at c.lay_octets-then-is_bare.result c.args.output.now c.lay_octets-then-is_bare.new.output c.lay_octets-then-is_bare.ensures.laid)
 
 pub lay_value-returns-then-moves_whole-clause-laid : goal.lay_value-returns-then-moves_whole-clause-laid
 lay_value-returns-then-moves_whole-clause-laid t c =
-    subst (λ b. Lays b c.args.at c.lay_octets.result c.args.output.now c.lay_octets.new.output) (ap bits c.octets.ensures.body ∙ sym (c.moves_whole.ensures c.if-moves_whole.true (moves_tree c.args.moves.now)))
+    subst (λ b. Lays b c.args.at c.lay_octets.result c.args.output.now c.lay_octets.new.output) (ap bits c.octets.ensures.body ∙ sym (c.moves_whole.ensures c.if-moves_whole.true (moves_tree (out-Move c.args.one.now).below)))
     (gathered_bits c.octets.result.now c.args.at c.lay_octets.result c.args.output.now c.lay_octets.new.output c.lay_octets.ensures.laid)
 
 pub lay_anew-front-front-requires-clause-links : goal.lay_anew-front-front-requires-clause-links
 lay_anew-front-front-requires-clause-links t c =
-    let item = c.args.item.now in
+    let item = c.args.item.found.now.item in
     let own = item.codec.now in
     let same : own.nodes ≡ c.as_slice-in-Extended.result.now = ap (λ (x : Codec). x.nodes) c.requires.codec ∙ sym c.as_slice-in-Extended.ensures.members in
     subst (λ (ns : List Node). LinksWithin (length ns) c.as_slice-in-Extended-2.result.now) same
@@ -162,13 +159,13 @@ lay_anew-front-front-requires-clause-links t c =
 
 pub lay_anew-front-front-requires-clause-some : goal.lay_anew-front-front-requires-clause-some
 lay_anew-front-front-requires-clause-some t c =
-    omega (arith, ap length c.octets-octets.ensures.body, octets_some c.args.item.now c.node.result.now c.node.ensures c.in-Extended.last c.in-Extended.parts c.in-Extended.parts c.in-Extended.is refl)
+    omega (arith, ap length c.octets-octets.ensures.body, octets_some c.args.item.found.now.item c.node.result.now c.node.ensures c.in-Extended.last c.in-Extended.parts c.in-Extended.parts c.in-Extended.is refl)
 
 pub lay_anew-returns-in-Extended-clause-laid : goal.lay_anew-returns-in-Extended-clause-laid
 lay_anew-returns-in-Extended-clause-laid t c =
-    let item = c.args.item.now in
+    let item = c.args.item.found.now.item in
     let same : c.as_slice-in-Extended.result.now ≡ item.codec.now.nodes = c.as_slice-in-Extended.ensures.members ∙ sym (ap (λ (x : Codec). x.nodes) c.requires.codec) in
     subst (λ b. Lays b c.args.at c.lay_front.result c.args.output.now c.lay_front.new.output)
-    (front_stays item c.node.result.now c.node.ensures c.in-Extended.last c.in-Extended.parts c.as_slice-in-Extended-2.result.now c.in-Extended.is c.as_slice-in-Extended-2.ensures.members c.args.count (moves_tree c.args.moves.now)
+    (front_stays item c.node.result.now c.node.ensures c.in-Extended.last c.in-Extended.parts c.as_slice-in-Extended-2.result.now c.in-Extended.is c.as_slice-in-Extended-2.ensures.members (out-Move c.args.one.now).parts (moves_tree (out-Move c.args.one.now).below)
     c.front-front.result c.as_slice-in-Extended.result.now c.octets-octets.result.now same c.octets-octets.ensures.body c.front-front.ensures)
     c.lay_front.ensures.laid

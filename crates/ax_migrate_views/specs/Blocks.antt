@@ -3,6 +3,8 @@ use Rattle.std.specs.Prelude.{◌≡◌, ℕ, ◌*◌, ◌/◌, ◌%◌, ◌≤�
 use Rattle.ax_bits.specs.Bits.{bits}
 use Rattle.ax_bits.specs.Out.{Appends}
 use Rattle.ax_bits.specs.declared.output.Out.{Out}
+use Rattle.ax_blocks.specs.Commands.{BlockCommand}
+use Rattle.ax_migration.specs.Commands.{migrate_command}
 use Rattle.ax_migration.specs.Migrating.{migrated_block}
 use Rattle.ax_migrate_views.specs.Editions.{AreEditions}
 use Rattle.ax_migrate_views.specs.declared.migrator.Migrator.{Migrator}
@@ -23,6 +25,10 @@ old_tree m = spec_tree m.old.now
 
 abbrev pub new_tree : Migrator → SpecTree
 new_tree m = spec_tree m.new.now
+
+-- `migrate` between the two editions
+abbrev pub command_of : Migrator → BlockCommand
+command_of m = migrate_command (old_tree m) (new_tree m)
 
 -- what it is made of is of its two editions
 abbrev pub IsOfEditions : Migrator → Type 0

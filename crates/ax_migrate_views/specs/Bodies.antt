@@ -1,5 +1,5 @@
 -- Bodies as they move.
-use Rattle.std.specs.Prelude.{ℕ, List, flat_map}
+use Rattle.std.specs.Prelude.{◌≡◌, ℕ, List, flat_map}
 use Rattle.ax_bits.specs.Bits.{bits}
 use Rattle.ax_relation.specs.Moves.{MovesTree}
 use Rattle.ax_relation.specs.PlainMoves.{moves_tree}
@@ -16,17 +16,27 @@ use Rattle.ax_format.specs.Tree.{marked, EntriesTree}
 use Rattle.ax_codec.specs.Bare.{bare_kind}
 use Rattle.ax_codec.specs.Standing.{StandsFor}
 use Rattle.ax_codec.specs.declared.codec.Codec.{Codec}
-use Rattle.ax_walk.specs.Placing.{PlacesKind}
-use Rattle.ax_walk.specs.declared.places.Places.{Places}
+use Rattle.ax_codec.specs.Table.{record_kind_at}
+use Rattle.ax_walk.specs.Placing.{PlacesKind, entries_there}
+use Rattle.ax_walk.specs.declared.places.PlacedSlots.{PlacedSlots}
 
 -- the records of the old edition, one after the other
 abbrev pub body_by : MovesTree → SpecTree → List EntriesTree → List ℕ
 body_by ms old records = flat_map (λ r. canon_by ms (bare_kind (record_kind old)) (marked r)) records
 
--- a record is read from octet `here` on, and its items stand in these places
-pub record IsRecordPlaced (codec : Codec) (body : List ℕ) (here : ℕ) (places : Places) : Type 0 where
+-- the slots are those of a record, which is read from their octet on, and its items stand in their places
+pub record IsRecordPlaced (w : PlacedSlots) : Type 0 where
+  pub slots : w.slots.now ≡ w.codec.now.slots
   pub end : ℕ
-  pub placed : PlacesKind codec.nodes codec.slots body here places end
+  pub placed : PlacesKind w.codec.now.nodes w.codec.now.slots w.body.now w.at w.places.now end
+
+-- the entries of such a record
+abbrev pub placed_entries : PlacedSlots → EntriesTree
+placed_entries w = entries_there w.codec.now.nodes w.codec.now.slots w.body.now w.at
+
+-- its bits as it moves
+abbrev pub record_canon_by : List Move → PlacedSlots → List ℕ
+record_canon_by moves w = canon_by (moves_tree moves) (record_kind_at w.codec.now.nodes w.codec.now.slots) (marked (placed_entries w))
 
 -- the records that the body spells are laid as they move, for each specification that the codec stands for
 pub record LaysBody (codec : Codec) (moves : List Move) (body : List ℕ) (at n : ℕ) (old new : List ℕ) : Type 0 where

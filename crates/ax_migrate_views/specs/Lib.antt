@@ -6,4 +6,6 @@ pub mod Losses
 pub mod MoveSets
 pub mod Pieces
 pub mod Ranges
+pub mod Taking
+pub mod Telling
 pub mod TreeSets

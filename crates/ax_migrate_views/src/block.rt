@@ -1,16 +1,16 @@
 //! What is made of one block.
-ghost use Rattle.std.specs.Prelude.{◌≡◌, ◌≤◌, length, IsErrOf};
-ghost use Rattle.ax_blocks.specs.Reader.{raw_tree};
-ghost use Rattle.ax_migrate_views.specs.Blocks.{new_tree, old_tree};
+ghost use Rattle.std.specs.Prelude.{◌≡◌, IsErrOf};
+ghost use Rattle.ax_migrate_views.specs.Blocks.{old_tree};
 ghost use Rattle.ax_migrate_views.specs.Losses.{TellsLosses, WritesLosses};
-ghost use Rattle.ax_migration.specs.Commands.{migrate_command};
-ghost use Rattle.ax_format.specs.Sizes.{longest_body};
+ghost use Rattle.ax_migrate_views.specs.Taking.{TakesBlock};
 ghost use Rattle.ax_endpoints.specs.Changes.{sink_change};
-ghost use Rattle.ax_blocks.specs.BlockTaking.{Takes};
+ghost use Rattle.ax_blocks.specs.BlockTaking.{WritesOctets};
+ghost use Rattle.ax_format.specs.CanonicalOctets.{framed};
 ghost use Rattle.ax_blocks.specs.declared.work.WorkStop.TheVariants.{OutOfMemory};
 ghost use Rattle.ax_walk.specs.Views.{SpellsSome};
 
 use crate::migrator::Migrator;
+use crate::output::{Outputs, lay_opaque};
 use crate::pieces::{KnownRange, first_too_long, write_blocks};
 use crate::ranges::Fit;
 use ax_blocks::{WorkStop, write_piece};
@@ -21,62 +21,69 @@ use ax_walk::scan;
 /// The most octets of a data block, and of lines that are kept.
 const LONGEST: u32 = 65_535;
 
+/// A data block, and the number that its lines name it by.
+#[derive(Clone, Copy)]
+pub(crate) struct NumberedBlock<'r, 'b> {
+    pub(crate) number: u64,
+    pub(crate) raw: &'r RawBlock<'b>,
+}
+
+/// Writes a block of another category as it is, as one piece.
+pub(crate) fn copy_block<K: Sink>(
+    raw: &RawBlock<'_>,
+    out: &mut K,
+    outputs: &mut Outputs,
+) -> Result<(), WorkStop>
+    ensures { WritesOctets (sink_change K.Sink out.old out.new) (framed raw.now.category raw.now.body.now) result }
+{
+    let count = lay_opaque(raw, &mut outputs.block);
+    write_piece(out, &outputs.block[..count as usize])
+}
+
 /// Migrates a block of the old edition's category. It is judged as a whole before the first line of its losses: Fault is the
 /// first fault of its body, and TooLong comes exactly where one migrated record alone has too many octets for a data block, with
 /// those of the first such record's. After all lines its blocks are written, each as one piece.
 pub(crate) fn migrate_block<R: Sink, K: Sink>(
     migrator: &Migrator<'_>,
-    number: u64,
-    raw: &RawBlock<'_>,
+    block: NumberedBlock<'_, '_>,
     report: &mut R,
     out: &mut K,
-    output: &mut [u8],
-    lines: &mut [u8],
+    outputs: &mut Outputs,
 ) -> Result<(), WorkStop>
-    requires category { raw.now.category ≡ (old_tree migrator.now).category }
-    requires room { length output.old ≡ 131067 }
-    requires lines_room { length lines.old ≡ 131067 }
-    ensures takes { Takes (migrate_command (old_tree migrator.now) (new_tree migrator.now)) number (raw_tree raw.now) (sink_change K.Sink out.old out.new) (sink_change R.Sink report.old report.new) result }
+    requires category { block.raw.now.category ≡ (old_tree migrator.now).category }
+    ensures takes { TakesBlock migrator.now block.entry (sink_change K.Sink out.old out.new) (sink_change R.Sink report.old report.new) result }
     ensures memory { IsErrOf result OutOfMemory → ⊥ }
-    ensures room { length output.new ≡ 131067 }
-    ensures lines_room { length lines.new ≡ 131067 }
 {
-    let laid = match migrator.lay(number, raw.body, output, lines) {
+    let (number, body) = (block.number, block.raw.body);
+    let laid = match migrator.lay(number, body, &mut outputs.block, &mut outputs.lines) {
         Ok(laid) => laid,
         Err(fault) => return Err(WorkStop::Fault(fault)),
     };
+    outputs.laid = laid;
     if laid.octets > LONGEST {
-        return migrate_long(
-            migrator, number, raw, laid.lines, report, out, output, lines,
-        );
+        return migrate_long(migrator, block, report, out, outputs);
     }
-    match report_losses(migrator, number, raw.body, laid.lines, lines, report) {
-        Ok(()) => write_piece(out, &output[..laid.octets as usize]),
+    match report_losses(migrator, block, outputs, report) {
+        Ok(()) => write_piece(out, &outputs.block[..laid.octets as usize]),
         Err(_) => Err(WorkStop::ReportFault),
     }
 }
 
-/// Migrates a block whose migrated records don't come into one data block. So many octets of lines were laid for it.
+/// Migrates a block whose migrated records don't come into one data block. Its lines were laid.
 fn migrate_long<R: Sink, K: Sink>(
     migrator: &Migrator<'_>,
-    number: u64,
-    raw: &RawBlock<'_>,
-    told: u32,
+    block: NumberedBlock<'_, '_>,
     report: &mut R,
     out: &mut K,
-    output: &mut [u8],
-    lines: &[u8],
+    outputs: &mut Outputs,
 ) -> Result<(), WorkStop>
-    requires category { raw.now.category ≡ (old_tree migrator.now).category }
-    requires spelled { SpellsSome migrator.now.codec.now raw.now.body.now }
-    requires told { TellsLosses migrator.now raw.now.body.now number told lines.now }
-    requires room { length output.old ≡ 131067 }
-    requires lines_room { length lines.now ≡ 131067 }
-    ensures takes { Takes (migrate_command (old_tree migrator.now) (new_tree migrator.now)) number (raw_tree raw.now) (sink_change K.Sink out.old out.new) (sink_change R.Sink report.old report.new) result }
+    requires category { block.raw.now.category ≡ (old_tree migrator.now).category }
+    requires spelled { SpellsSome migrator.now.codec.now block.raw.now.body.now }
+    requires told { TellsLosses migrator.now block.raw.now.body.now block.number outputs.old.laid.lines outputs.old.lines.items }
+    ensures takes { TakesBlock migrator.now block.entry (sink_change K.Sink out.old out.new) (sink_change R.Sink report.old report.new) result }
     ensures memory { IsErrOf result OutOfMemory → ⊥ }
-    ensures room { length output.new ≡ 131067 }
 {
-    let view = match scan(migrator.old(), raw.body) {
+    let view = match scan(migrator.old(), block.raw.body) {
         Ok(view) => view,
         Err(fault) => return Err(WorkStop::Fault(fault)),
     };
@@ -92,8 +99,8 @@ fn migrate_long<R: Sink, K: Sink>(
         Some(octets) => return Err(WorkStop::TooLong { octets }),
         None => {}
     }
-    match report_losses(migrator, number, raw.body, told, lines, report) {
-        Ok(()) => match write_blocks(migrator, &view, &known, out, output) {
+    match report_losses(migrator, block, outputs, report) {
+        Ok(()) => match write_blocks(migrator, &view, &known, out, &mut outputs.block) {
             Ok(()) => Ok(()),
             Err(_) => Err(WorkStop::WriteFault),
         },
@@ -104,23 +111,20 @@ fn migrate_long<R: Sink, K: Sink>(
 /// Writes the lines that were laid for a block, as one piece; where they are more than were kept, from the records again.
 fn report_losses<R: Sink>(
     migrator: &Migrator<'_>,
-    number: u64,
-    body: &[u8],
-    told: u32,
-    lines: &[u8],
+    block: NumberedBlock<'_, '_>,
+    outputs: &Outputs,
     report: &mut R,
 ) -> Result<(), SinkFailed>
-    requires size { (1 ≤ length body.now) × (length body.now ≤ longest_body) }
-    requires spelled { SpellsSome migrator.now.codec.now body.now }
-    requires told { TellsLosses migrator.now body.now number told lines.now }
-    requires lines_room { length lines.now ≡ 131067 }
-    ensures { WritesLosses migrator.now body.now number (sink_change R.Sink report.old report.new) result }
+    requires spelled { SpellsSome migrator.now.codec.now block.raw.now.body.now }
+    requires told { TellsLosses migrator.now block.raw.now.body.now block.number outputs.now.laid.lines outputs.now.lines.items }
+    ensures { WritesLosses migrator.now block.entry.raw.now.body.now block.entry.number (sink_change R.Sink report.old report.new) result }
 {
+    let told = outputs.laid.lines;
     if told <= LONGEST {
-        return write_text(report, &lines[..told as usize]);
+        return write_text(report, &outputs.lines[..told as usize]);
     }
-    match scan(migrator.old(), body) {
-        Ok(view) => migrator.write_losses(report, number, &view),
+    match scan(migrator.old(), block.raw.body) {
+        Ok(view) => migrator.write_losses(report, block.number, &view),
         Err(_) => Err(SinkFailed),
     }
 }

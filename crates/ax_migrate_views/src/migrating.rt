@@ -8,7 +8,7 @@ ghost use Rattle.ax_format.specs.Sizes.{longest_body};
 ghost use Rattle.ax_codec.specs.Standing.{IsCompiled};
 ghost use Rattle.ax_walk.specs.Views.{FailsThere, SpellsSome};
 
-use crate::bodies::{Laid, lay_body};
+use crate::bodies::{Laid, ToldKeys, lay_body};
 use crate::kept::kept_slots;
 use crate::migrator::Migrator;
 use ax_codec::Codec;
@@ -84,18 +84,11 @@ impl<'c> Migrator<'c> {
         ensures room { length output.new ≡ 131067 }
         ensures lines_room { length lines.new ≡ 131067 }
     {
-        let moves = self.relation.moves();
-        let laid = lay_body(
-            self.codec,
-            body,
-            moves,
-            &self.known,
-            &self.kept,
-            self.lost.as_slice(),
-            number,
-            output,
-            lines,
-        )?;
+        let lost = ToldKeys {
+            block: number,
+            keys: self.lost.as_slice(),
+        };
+        let laid = lay_body(self, body, lost, output, lines)?;
         write_head(self.codec.category(), laid.octets, output);
         Ok(laid)
     }
@@ -116,18 +109,11 @@ impl<'c> Migrator<'c> {
         ensures room { length output.new ≡ 131067 }
         ensures lines_room { length lines.new ≡ 131067 }
     {
-        let moves = self.relation.moves();
-        let laid = lay_body(
-            self.codec,
-            body,
-            moves,
-            &self.known,
-            &self.kept,
-            &[],
-            0,
-            output,
-            lines,
-        )?;
+        let none = ToldKeys {
+            block: 0,
+            keys: &[],
+        };
+        let laid = lay_body(self, body, none, output, lines)?;
         let count = laid.octets;
         write_head(self.codec.category(), count, output);
         Ok(count)

@@ -10,6 +10,7 @@ use crate::migrator::Migrator;
 use crate::writing::write_record;
 use ax_bits::Out;
 use ax_endpoints::{Sink, SinkFailed};
+use ax_moves::{LostBelow, RecordName};
 use ax_walk::BlockView;
 
 impl<'c> Migrator<'c> {
@@ -79,15 +80,12 @@ impl<'c> Migrator<'c> {
         let mut lines = [0; 131_067];
         let mut number = 0;
         for one in view.records() {
-            write_record(
-                report,
-                block,
-                number,
-                self.codec,
-                &one,
-                self.lost.as_slice(),
-                &mut lines,
-            )?;
+            let lost = LostBelow {
+                name: RecordName { block, number },
+                keys: self.lost.as_slice(),
+                depth: 0,
+            };
+            write_record(report, self.codec, &one, &lost, &mut lines)?;
             number += 1;
         }
         Ok(())

@@ -82,18 +82,17 @@ pub(crate) fn first_too_long(
 fn write_range<K: Sink>(
     migrator: &Migrator<'_>,
     view: &BlockView<'_, '_>,
-    from: u32,
-    count: u32,
+    range: KnownRange,
     out: &mut K,
     output: &mut [u8],
 ) -> Result<(), SinkFailed>
     requires view { view.now.codec.now ≡ migrator.now.codec.now }
-    requires range { IsRange migrator.now view.now.body.now from count }
+    requires range { IsRange migrator.now view.now.body.now range.from range.fit.count }
     requires room { length output.old ≡ 131067 }
-    ensures written { WritesRange migrator.now view.now.body.now from count (sink_change K.Sink out.old out.new) result }
+    ensures written { WritesRange migrator.now view.now.body.now range.from range.fit.count (sink_change K.Sink out.old out.new) result }
     ensures room { length output.new ≡ 131067 }
 {
-    let octets = migrator.lay_range(view, from, count, output);
+    let octets = migrator.lay_range(view, range.from, range.fit.count, output);
     write_text(out, &output[..octets as usize])
 }
 
@@ -118,7 +117,7 @@ pub(crate) fn write_blocks<K: Sink>(
     let mut from = 0;
     while from < count {
         let fit = fit_at(migrator, view, known, from);
-        write_range(migrator, view, from, fit.count, out, output)?;
+        write_range(migrator, view, KnownRange { from, fit }, out, output)?;
         from += fit.count;
     }
     Ok(())

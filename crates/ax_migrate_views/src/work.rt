@@ -1,15 +1,13 @@
 //! The work of `migrate` on one block.
-ghost use Rattle.std.specs.Prelude.{◌≡◌, length, IfOk};
-ghost use Rattle.ax_migrate_views.specs.Blocks.{new_tree, old_tree};
-ghost use Rattle.ax_migration.specs.Commands.{migrate_command};
+ghost use Rattle.std.specs.Prelude.{◌≡◌, IfOk};
+ghost use Rattle.ax_migrate_views.specs.Blocks.{command_of};
 
-use crate::block::migrate_block;
+use crate::block::{NumberedBlock, copy_block, migrate_block};
 use crate::migrator::Migrator;
-use crate::output::{ROOM, lay_opaque};
-use ax_blocks::{BlockWork, WorkStop, write_piece};
+use crate::output::Outputs;
+use ax_blocks::{BlockWork, WorkStop};
 use ax_endpoints::Sink;
 use ax_format::RawBlock;
-use ax_lists::zeros;
 use std::alloc::{AllocError, Global};
 
 /// `migrate` over views, by a migrator between the two editions. What is written of a block stands in one output, and the
@@ -17,10 +15,7 @@ use std::alloc::{AllocError, Global};
 #[derive(Drop)]
 pub struct MigrateViews<'m, 'c> {
     migrator: &'m Migrator<'c>,
-    output: Vec<u8>,
-    lines: Vec<u8>,
-    ghost room: { length output.items ≡ 131067 },
-    ghost lines_room: { length lines.items ≡ 131067 },
+    outputs: Outputs,
 }
 
 impl<'m, 'c> MigrateViews<'m, 'c> {
@@ -29,23 +24,18 @@ impl<'m, 'c> MigrateViews<'m, 'c> {
         alloc: Global,
         migrator: &'m Migrator<'c>,
     ) -> Result<MigrateViews<'m, 'c>, AllocError>
-        ensures command { IfOk result (λ work. ⟦<MigrateViews<'m, 'c> as BlockWork>⟧.command work ≡ migrate_command (old_tree migrator.now) (new_tree migrator.now)) }
+        ensures command { IfOk result (λ work. ⟦<MigrateViews<'m, 'c> as BlockWork>⟧.command work ≡ command_of migrator.now) }
         ensures sound { IfOk result (λ work. ⟦<MigrateViews<'m, 'c> as BlockWork>⟧.sound work) }
     {
-        let output = zeros(alloc, ROOM)?;
-        let lines = zeros(alloc, ROOM)?;
-        Ok(MigrateViews {
-            migrator,
-            output,
-            lines,
-        })
+        let outputs = Outputs::new(alloc)?;
+        Ok(MigrateViews { migrator, outputs })
     }
 }
 
 impl<'m, 'c> BlockWork for MigrateViews<'m, 'c> {
     ghost use Rattle.std.specs.Prelude.{false};
 
-    ghost command = { λ s. migrate_command (old_tree s.migrator.now) (new_tree s.migrator.now) };
+    ghost command = { λ s. command_of s.migrator.now };
 
     ghost sound = { λ s. Unit {0} };
 
@@ -61,17 +51,9 @@ impl<'m, 'c> BlockWork for MigrateViews<'m, 'c> {
         out: &mut K,
     ) -> Result<(), WorkStop> {
         if raw.category != self.migrator.old().category() {
-            let count = lay_opaque(raw, &mut self.output);
-            return write_piece(out, &self.output[..count as usize]);
+            return copy_block(raw, out, &mut self.outputs);
         }
-        migrate_block(
-            self.migrator,
-            number,
-            raw,
-            report,
-            out,
-            &mut self.output,
-            &mut self.lines,
-        )
+        let block = NumberedBlock { number, raw };
+        migrate_block(self.migrator, block, report, out, &mut self.outputs)
     }
 }

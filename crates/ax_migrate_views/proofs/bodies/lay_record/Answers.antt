@@ -11,11 +11,11 @@ use Rattle.ax_migrate_views.proofs.bodies.lay_record.Goals as goal
 
 pub lay_moved-requires-clause-placed : goal.lay_moved-requires-clause-placed
 lay_moved-requires-clause-placed c =
-    placed_by _ c.args.codec.now c.args.codec.now.slots c.args.body.now c.args.here c.args.places.now c.requires.placed.end refl (sym c.as_slice.ensures.members) refl refl refl c.args.codec.now.records.within c.requires.placed.placed
+    placed_by _ c.args.whole.now.codec.now c.args.whole.now.codec.now.slots c.args.whole.now.body.now c.args.whole.now.at c.args.whole.now.places.now c.requires.placed.end refl (sym c.requires.placed.slots) refl refl refl c.args.whole.now.codec.now.records.within c.requires.placed.placed
 
 pub returns-clause-laid : goal.returns-clause-laid
 returns-clause-laid c =
     let ms = moves_tree c.args.moves.now in
-    let ns = c.args.codec.now.nodes in
-    let same = ap (λ links. field_by ms (entries_there ns links c.args.body.now c.args.here) ++ entries_canon_by ms (slots_in (record_kind_at ns links)) (entries_there ns links c.args.body.now c.args.here)) c.as_slice.ensures.members in
-    subst (λ b. Lays b c.args.at c.lay_moved.result c.args.output.now c.lay_moved.new.output) (same ∙ record_canon ms ns c.args.codec.now.slots (entries_there ns c.args.codec.now.slots c.args.body.now c.args.here)) c.lay_moved.ensures.laid
+    let ns = c.args.whole.now.codec.now.nodes in
+    let same = ap (λ links. field_by ms (entries_there ns links c.args.whole.now.body.now c.args.whole.now.at) ++ entries_canon_by ms (slots_in (record_kind_at ns links)) (entries_there ns links c.args.whole.now.body.now c.args.whole.now.at)) c.requires.placed.slots in
+    subst (λ b. Lays b c.args.at c.lay_moved.result c.args.output.now c.lay_moved.new.output) (same ∙ record_canon ms ns c.args.whole.now.codec.now.slots (entries_there ns c.args.whole.now.codec.now.slots c.args.whole.now.body.now c.args.whole.now.at)) c.lay_moved.ensures.laid

@@ -34,4 +34,4 @@ returns-clause-written g c =
     let pieces = subst (λ codec. ArePieces false (record_kind_at codec.nodes codec.slots) view.count view.body.now) c.requires.view view.records in
     let whole = all m of view.body.now view.size.1 view.size.0 view.count pieces in
     let short : c.lay_range-octets.result ≤ 65535 = subst (λ n. n ≤ 65535) (sym (c.lay_range-octets.ensures.laid.measured whole.0 whole.1)) (c.requires.range.short whole.0 whole.1) in
-    range_written m view.body.now c.args.from c.args.count c.lay_range-octets.result c.lay_range-octets.new.output _ _ _ _ c.write_text.result short c.lay_range-octets.ensures.laid c.write_text.ensures
+    range_written m view.body.now c.args.range.from c.args.range.fit.count c.lay_range-octets.result c.lay_range-octets.new.output _ _ _ _ c.write_text.result short c.lay_range-octets.ensures.laid c.write_text.ensures

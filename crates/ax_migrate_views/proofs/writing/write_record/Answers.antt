@@ -4,7 +4,8 @@ use Rattle.ax_migration.specs.Losing.{lost_lines}
 use Rattle.ax_moves.proofs.LostRuns.{record_lost}
 use Rattle.ax_moves.proofs.Slots.{placed_by}
 use Rattle.ax_migrate_views.proofs.WritingSteps.{entries_shown, never_fails, of_none, of_some}
-use Rattle.ax_moves.specs.Lost.{key_paths}
+use Rattle.ax_format.specs.Tree.{marked}
+use Rattle.ax_moves.specs.Lost.{key_paths, losses_below}
 use Rattle.ax_endpoints.proofs.Pieces.{same_text}
 use Rattle.ax_fspec.specs.Reading.{FailsAt, kind_read}
 use Rattle.ax_codec.specs.Table.{record_kind_at}
@@ -34,11 +35,11 @@ pub returns-clause-written : goal.returns-clause-written
 returns-clause-written g c =
     let codec = c.args.codec.now in
     let one = c.args.one.now in
-    let n = c.args.number in
-    let lost = c.args.lost.now in
+    let n = c.args.lost.now.name.number in
+    let lost = c.args.lost.now.keys.now in
     let members = c.as_slice.ensures.members in
     let octets = c.octets-body.ensures.body in
     let own = (λ i. entries_there codec.nodes (members i) (octets i) 0) ∙ entries_shown codec.nodes codec.slots one.body.now ∙ ap (λ (x : Codec). entries_in (value_in (record_kind_at x.nodes x.slots) one.body.now)) (sym c.requires.codec) in
     same_text _ _ _ _ _ _ _
-    (ap (lost_lines c.args.block) (record_lost n (entries_there codec.nodes c.as_slice.result.now c.octets-body.result.now 0) lost c.requires.runs ∙ ap (λ es. record_losses n es (key_paths lost)) own))
+    (ap (lost_lines c.args.lost.now.name.block) (ap (λ d. losses_below n d (marked (entries_there codec.nodes c.as_slice.result.now c.octets-body.result.now 0)) lost) c.requires.whole ∙ record_lost n (entries_there codec.nodes c.as_slice.result.now c.octets-body.result.now 0) lost c.requires.runs ∙ ap (λ es. record_losses n es (key_paths lost)) own))
     c.write_keys.ensures.written

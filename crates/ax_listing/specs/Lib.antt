@@ -1,3 +1,4 @@
+pub mod Elements
 pub mod Listing
 pub mod ShowCommand
 pub mod Shown

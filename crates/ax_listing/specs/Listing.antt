@@ -4,6 +4,7 @@ use Rattle.ax_bits.specs.Bits.{bits}
 use Rattle.ax_format.specs.Bodies.{SpellsBody}
 use Rattle.ax_format.specs.Specification.{SpecTree}
 use Rattle.ax_format.specs.Tree.{EntriesTree}
+use Rattle.ax_listing.specs.declared.numbered.NumberedBlock.{NumberedBlock}
 use Rattle.ax_text_form.specs.Printing.{as_lines}
 use Rattle.ax_text_form.specs.ShowText.{block_front, records_lines}
 
@@ -12,3 +13,7 @@ pub record ListsBody (spec : SpecTree) (number category octets count : ℕ) (bod
   pub records : List EntriesTree
   pub spelled : SpellsBody spec records (bits body)
   pub is : listing ≡ as_lines ((block_front number category octets ++ codes " records " ++ decimal count) ∷ records_lines spec 0 records [])
+
+-- of a block's body, under its number
+abbrev pub ListsBlock : SpecTree → NumberedBlock → ℕ → ℕ → List ℕ → Type 0
+ListsBlock spec block octets count listing = ListsBody spec block.number block.raw.now.category octets count block.raw.now.body.now listing

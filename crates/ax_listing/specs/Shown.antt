@@ -8,13 +8,18 @@ use Rattle.ax_format.specs.Reader.{fixed_value, members_value}
 use Rattle.ax_format.specs.Specification.{SpecTree, record_kind, record_slots}
 use Rattle.ax_format.specs.Tree.{FixedTree, MembersTree, MemberTree, named, spare, KindTree, extended, compound, SlotTree, SlotsTree, spare_slot, subitem, ValueTree, number, EntriesTree, marked}
 use Rattle.ax_format.specs.Widths.{width}
-use Rattle.ax_format.specs.declared.content.Content.{Content}
 use Rattle.ax_format.specs.declared.kind.LastPart.{LastPart}
+use Rattle.ax_fspec.specs.Reading.{kind_read}
+use Rattle.ax_held_kinds.specs.HeldFixed.{held_content}
 use Rattle.ax_held_kinds.specs.declared.lines.ShortElement.{ShortElement}
+use Rattle.ax_listing.specs.declared.element.Element.{Element}
+use Rattle.ax_listing.specs.declared.place.BitPlace.{BitPlace}
+use Rattle.ax_listing.specs.declared.place.Place.{Place}
 use Rattle.ax_text_form.specs.Printing.{as_lines, Puts}
 use Rattle.ax_text_form.specs.ShowText.{number_line, element_line, count_line, fixed_lines, member_lines, members_lines, kind_lines, entries_lines, record_lines, records_lines}
 use Rattle.ax_text_form.specs.ValueText.{Texts, one_onto}
-use Rattle.ax_values.specs.SlotReading.{IsValueRead}
+use Rattle.ax_values.specs.SlotReading.{HasFailed, IsValueRead}
+use Rattle.ax_values.specs.declared.error.DecodeError.{DecodeError}
 
 -- ---- members
 
@@ -31,31 +36,39 @@ abbrev pub MemberInBounds : MemberTree → Type 0
 MemberInBounds (named name f) = FixedInBounds f
 MemberInBounds (spare w) = IsWidth w
 
--- ---- in the bits from bit `here` of the body on
+-- ---- in the bits from a bit of a body on
 
--- the line of an element of w bits was put
-abbrev pub ShowsElement : ℕ → Content → List ℕ → List ℕ → ℕ → List ℕ → List ℕ → Type 0
-ShowsElement w c path body here old new = Puts as_lines (one_onto (element_line w c path (number_of (take w (drop here (bits body)))))) old new
+-- the number that the first w of them spell
+abbrev pub number_from : BitPlace → ℕ → ℕ
+number_from from w = number_of (take w (drop from.at (bits from.body.now)))
+
+-- the text of an element's line
+abbrev pub line_of : Element → List ℕ → ℕ → List ℕ
+line_of e path n = element_line e.width (held_content e.content.now) path n
+
+-- the line of an element was put
+abbrev pub ShowsElement : Element → List ℕ → BitPlace → List ℕ → List ℕ → Type 0
+ShowsElement e path from old new = Puts as_lines (one_onto (line_of e path (number_from from e.width))) old new
 
 -- that of a short element was put, under a path
-abbrev pub ShowsShort : ShortElement → List ℕ → List ℕ → ℕ → List ℕ → List ℕ → Type 0
-ShowsShort short path body here old new = ShowsElement short.width short.content.now (at path short.name) body here old new
+abbrev pub ShowsShort : ShortElement → List ℕ → BitPlace → List ℕ → List ℕ → Type 0
+ShowsShort short path from old new = Puts as_lines (one_onto (element_line short.width short.content.now (at path short.name) (number_from from short.width))) old new
 
 -- the line of w spare bits was put, under a path
-abbrev pub ShowsSpare : ℕ → List ℕ → List ℕ → ℕ → List ℕ → List ℕ → Type 0
-ShowsSpare w path body here old new = Puts as_lines (one_onto (number_line (at path (codes "spare")) (number_of (take w (drop here (bits body)))))) old new
+abbrev pub ShowsSpare : ℕ → List ℕ → BitPlace → List ℕ → List ℕ → Type 0
+ShowsSpare w path from old new = Puts as_lines (one_onto (number_line (at path (codes "spare")) (number_from from w))) old new
 
 -- the lines of a fixed kind's value were put
-abbrev pub ShowsFixed : FixedTree → List ℕ → List ℕ → ℕ → List ℕ → List ℕ → Type 0
-ShowsFixed f path body here old new = Puts as_lines (fixed_lines f path (fixed_value f (drop here (bits body)))) old new
+abbrev pub ShowsFixed : FixedTree → List ℕ → BitPlace → List ℕ → List ℕ → Type 0
+ShowsFixed f path from old new = Puts as_lines (fixed_lines f path (fixed_value f (drop from.at (bits from.body.now)))) old new
 
 -- the lines of a member were put
-abbrev pub ShowsMember : MemberTree → List ℕ → List ℕ → ℕ → List ℕ → List ℕ → Type 0
-ShowsMember m path body here old new = Puts as_lines (member_lines m path (member_value m (drop here (bits body)))) old new
+abbrev pub ShowsMember : MemberTree → List ℕ → BitPlace → List ℕ → List ℕ → Type 0
+ShowsMember m path from old new = Puts as_lines (member_lines m path (member_value m (drop from.at (bits from.body.now)))) old new
 
 -- the lines of members were put
-abbrev pub ShowsMembers : MembersTree → List ℕ → List ℕ → ℕ → List ℕ → List ℕ → Type 0
-ShowsMembers ms path body here old new = Puts as_lines (members_lines ms path (members_value ms (drop here (bits body)))) old new
+abbrev pub ShowsMembers : MembersTree → List ℕ → BitPlace → List ℕ → List ℕ → Type 0
+ShowsMembers ms path from old new = Puts as_lines (members_lines ms path (members_value ms (drop from.at (bits from.body.now)))) old new
 
 -- ---- from octet `here` of the body up to octet `end`
 
@@ -73,15 +86,29 @@ pub record ShowsCounted (k : KindTree) (path word body : List ℕ) (here end : �
   pub put : Puts as_lines later old new
   pub first : (rest : Texts) → kind_lines k path value rest ≡ count_line path word count ∷ later rest
 
--- the same, of occurrences, of parts and of subitems
-abbrev pub ShowsRepeated : KindTree → List ℕ → List ℕ → ℕ → ℕ → List ℕ → List ℕ → ℕ → Type 0
-ShowsRepeated k path body here end old new count = ShowsCounted k path (codes "occurrences") body here end old new count
+-- ---- from a place on
 
-abbrev pub ShowsParts : LastPart → List MembersTree → List ℕ → List ℕ → ℕ → ℕ → List ℕ → List ℕ → ℕ → Type 0
-ShowsParts last ps path body here end old new count = ShowsCounted (extended last ps) path (codes "parts") body here end old new count
+-- a value of this kind was read up to octet `end`, and its lines were put
+abbrev pub ShowsFrom : KindTree → List ℕ → Place → ℕ → List ℕ → List ℕ → Type 0
+ShowsFrom k path from end old new = Shows k path from.body.now from.at end old new
 
-abbrev pub ShowsSubitems : SlotsTree → List ℕ → List ℕ → ℕ → ℕ → List ℕ → List ℕ → ℕ → Type 0
-ShowsSubitems ss path body here end old new count = ShowsCounted (compound ss) path (codes "subitems") body here end old new count
+-- under a path and a name
+abbrev pub ShowsUnder : KindTree → List ℕ → List ℕ → Place → ℕ → List ℕ → List ℕ → Type 0
+ShowsUnder k path name from end old new = ShowsFrom k (at path name) from end old new
+
+-- none was: for the first fault of what is there, or for want of memory
+abbrev pub FailsFrom : KindTree → Place → DecodeError → Type 0
+FailsFrom k from e = HasFailed (kind_read k from.body.now from.at) from.at e
+
+-- a value was read, and its lines were put, without the first one: of occurrences, of parts and of subitems
+abbrev pub ShowsRepeated : KindTree → List ℕ → Place → ℕ → List ℕ → List ℕ → ℕ → Type 0
+ShowsRepeated k path from end old new count = ShowsCounted k path (codes "occurrences") from.body.now from.at end old new count
+
+abbrev pub ShowsParts : LastPart → List MembersTree → List ℕ → Place → ℕ → List ℕ → List ℕ → ℕ → Type 0
+ShowsParts last ps path from end old new count = ShowsCounted (extended last ps) path (codes "parts") from.body.now from.at end old new count
+
+abbrev pub ShowsSubitems : SlotsTree → List ℕ → Place → ℕ → List ℕ → List ℕ → ℕ → Type 0
+ShowsSubitems ss path from end old new count = ShowsCounted (compound ss) path (codes "subitems") from.body.now from.at end old new count
 
 -- ---- slots
 
@@ -101,13 +128,13 @@ pub record ShowsEntries (spec : SpecTree) (lines : EntriesTree → Texts → Tex
   pub read : IsValueRead (record_kind spec) body here end (marked entries)
   pub put : Puts as_lines (lines entries) old new
 
--- a record of that number was read and shown
-abbrev pub ShowsRecord : SpecTree → ℕ → List ℕ → ℕ → ℕ → List ℕ → List ℕ → Type 0
-ShowsRecord spec i body here end old new = ShowsEntries spec (record_lines spec i) body here end old new
+-- a record of that number was read and shown, from a place on
+abbrev pub ShowsRecord : SpecTree → ℕ → Place → ℕ → List ℕ → List ℕ → Type 0
+ShowsRecord spec i from end old new = ShowsEntries spec (record_lines spec i) from.body.now from.at end old new
 
 -- its items were, under a path
-abbrev pub ShowsItems : SpecTree → List ℕ → List ℕ → ℕ → ℕ → List ℕ → List ℕ → Type 0
-ShowsItems spec path body here end old new = ShowsEntries spec (entries_lines path 1 (record_slots spec)) body here end old new
+abbrev pub ShowsItems : SpecTree → List ℕ → Place → ℕ → List ℕ → List ℕ → Type 0
+ShowsItems spec path from end old new = ShowsEntries spec (entries_lines path 1 (record_slots spec)) from.body.now from.at end old new
 
 -- the body spells records, and their lines were put
 pub record ShowsRecords (spec : SpecTree) (body old new : List ℕ) : Type 0 where

@@ -9,6 +9,8 @@ ghost use Rattle.ax_text_form.specs.Listable.{SlotsListable};
 ghost use Rattle.ax_values.specs.Decoding.{IsBodyFault, IsFaultOf};
 ghost use Rattle.ax_listing.specs.Shown.{ShowsRecords};
 
+use crate::masked_items::MaskedItems;
+use crate::place::Place;
 use crate::records::show_record;
 use ax_format::category_digits;
 use ax_fspec::SlotMask;
@@ -32,12 +34,14 @@ pub fn show_records(
     ensures ok { OnOk result (ShowsRecords (spec_tree items.now) body.now lister.old.out lister.new.out) }
     ensures err { IfErr result (IsFaultOf (IsBodyFault (spec_tree items.now) body.now)) }
 {
+    let masked = MaskedItems { items, mask };
     let mut path = lister.blank_path();
     path.set(&category_digits(items.spec().category));
     let mut at = 0;
     let mut number = 0;
     while (at as usize) < body.len() {
-        at = show_record(lister, items, mask, number, body, at, &path)?;
+        let next = Place { body, at };
+        at = show_record(lister, masked, number, next, &path)?;
         number += 1;
     }
     Ok(())

@@ -1,14 +1,14 @@
 //! What the numbers of elements mean.
 ghost use Rattle.std.specs.Prelude.{◌≡◌, ◌<◌, ◌++◌, ◌^◌, ℕ, OnOk};
 ghost use Rattle.ax_held_kinds.specs.HeldFixed.{held_content};
-ghost use Rattle.ax_format.specs.InBounds.{IsWidth};
 ghost use Rattle.ax_format.specs.Paths.{at as under};
 ghost use Rattle.ax_text_form.specs.Listable.{ContentListable};
 ghost use Rattle.ax_text_form.specs.Printing.{PutsLines};
 ghost use Rattle.ax_text_form.specs.Remarks.{remark};
-ghost use Rattle.ax_text_form.specs.ShowText.{element_line};
 ghost use Rattle.ax_text_form.specs.ValueText.{one_onto};
+ghost use Rattle.ax_listing.specs.Shown.{line_of};
 
+use crate::element::Element;
 use ax_format::{Content, Name};
 use ax_held_kinds::HeldContent;
 use ax_octets::LinePath;
@@ -30,42 +30,37 @@ fn content_of<'a>(content: &'a HeldContent<'_>, number: u128) -> &'a Content
     }
 }
 
-/// The line of an element of so many bits and of this number under a path and its name.
+/// The line of an element of this number under a path and its name.
 #[inline(always)]
 pub(crate) fn put_under(
     lister: &mut Lister,
     number: u64,
-    width: u32,
-    content: &HeldContent<'_>,
+    element: Element<'_, '_>,
     path: &LinePath,
     name: &Name,
 ) -> Result<(), AllocError>
-    requires width { IsWidth width }
-    requires content { ContentListable width (held_content content.now) }
-    requires fits { number < 2 ^ width }
-    ensures { OnOk result (PutsLines (one_onto (element_line width (held_content content.now) (under path.now name.now) number)) lister.old lister.new) }
+    requires fits { number < 2 ^ element.width }
+    ensures { OnOk result (PutsLines (one_onto (line_of element.entry (under path.now name.now) number)) lister.old lister.new) }
 {
-    if let HeldContent::Quantity(quantity) = content {
+    let width = element.width;
+    if let HeldContent::Quantity(quantity) = element.content {
         let ends = quantity.ends.as_slice();
         return lister.quantity_under(number, width, quantity.scale, ends, path, name);
     }
-    let found = content_of(content, u128::from(number));
+    let found = content_of(element.content, u128::from(number));
     lister.element_under(number, width, found, path, name)
 }
 
-/// The line of an element of so many bits and of this number at a path.
+/// The line of an element of this number at a path.
 pub(crate) fn put_at(
     lister: &mut Lister,
     number: u128,
-    width: u32,
-    content: &HeldContent<'_>,
+    element: Element<'_, '_>,
     path: &LinePath,
 ) -> Result<(), AllocError>
-    requires width { IsWidth width }
-    requires content { ContentListable width (held_content content.now) }
-    requires fits { number < 2 ^ width }
-    ensures { OnOk result (PutsLines (one_onto (element_line width (held_content content.now) path.now number)) lister.old lister.new) }
+    requires fits { number < 2 ^ element.width }
+    ensures { OnOk result (PutsLines (one_onto (line_of element.entry path.now number)) lister.old lister.new) }
 {
-    let found = content_of(content, number);
-    lister.element_at(number, width, found, path)
+    let found = content_of(element.content, number);
+    lister.element_at(number, element.width, found, path)
 }

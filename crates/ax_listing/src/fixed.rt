@@ -1,53 +1,47 @@
 //! The lines of fixed kinds, from their bits: elements, groups and their members.
-ghost use Rattle.std.specs.Prelude.{◌≡◌, ◌+◌, ◌*◌, ◌/◌, ◌%◌, ◌^◌, ◌<◌, ◌≤◌, length, IfErr, OnOk};
+ghost use Rattle.std.specs.Prelude.{◌≡◌, ◌+◌, ◌*◌, ◌/◌, ◌%◌, ◌^◌, ◌<◌, ◌≤◌, length, IfErr, IfOk, OnOk};
 ghost use Rattle.ax_format.specs.InBounds.{IsWidth, FixedInBounds, MembersInBounds};
 ghost use Rattle.ax_format.specs.Paths.{at as under};
-ghost use Rattle.ax_held_kinds.specs.HeldFixed.{held_content, held_fixed, held_member, held_members};
-ghost use Rattle.ax_format.specs.Sizes.{longest_body};
+ghost use Rattle.ax_held_kinds.specs.HeldFixed.{held_fixed, held_member, held_members};
 ghost use Rattle.ax_format.specs.Widths.{width, members_width};
-ghost use Rattle.ax_text_form.specs.Listable.{ContentListable, FixedListable, MemberListable, MembersListable};
+ghost use Rattle.ax_text_form.specs.Listable.{FixedListable, MemberListable, MembersListable};
 ghost use Rattle.ax_listing.specs.Shown.{member_width, MemberInBounds, ShowsElement, ShowsShort, ShowsSpare, ShowsFixed, ShowsMember, ShowsMembers};
-ghost use Rattle.ax_listing.specs.Stopped.{IsStopped};
+ghost use Rattle.ax_listing.specs.Stopped.{IsBitAfter, IsStopped};
 
 use crate::contents::{put_at, put_under};
+use crate::element::Element;
 use crate::numbers::{number_at, wide_number_at};
 use crate::paths::set_named;
-use crate::stop::{FixedStop, pass};
+use crate::place::BitPlace;
+use crate::stop::{FixedStop, bit_after};
 use ax_format::Name;
-use ax_held_kinds::{HeldContent, HeldFixed, HeldMember, HeldMembers, ShortElement};
+use ax_held_kinds::{HeldFixed, HeldMember, HeldMembers, ShortElement};
 use ax_octets::LinePath;
 use ax_text_form::Lister;
 use std::alloc::AllocError;
 
-/// The line of an element of that name and of so many bits, from bit `at` of the body on, which is moved after them.
+/// The line of an element of that name, whose bits are those from there on. Ok is the bit after them.
 #[inline(always)]
 #[tactic(auto, using(crate::proofs::Members::elements, crate::proofs::Stops::stops))]
 fn show_element(
     lister: &mut Lister,
     name: &Name,
-    width: u32,
-    content: &HeldContent<'_>,
-    body: &[u8],
-    at: &mut u32,
+    element: Element<'_, '_>,
+    from: BitPlace<'_>,
     path: &LinePath,
-) -> Result<(), FixedStop>
-    requires width { IsWidth width }
-    requires content { ContentListable width (held_content content.now) }
-    requires place { at.old ≤ 8 * length body.now }
-    requires body { length body.now ≤ longest_body }
-    ensures lines { OnOk result (ShowsElement width (held_content content.now) (under path.now name.now) body.now at.old lister.old.out lister.new.out) }
-    ensures at { OnOk result (at.new ≡ at.old + width) }
-    ensures within { OnOk result (at.new ≤ 8 * length body.now) }
-    ensures stop { IfErr result (IsStopped body.now at.old width) }
+) -> Result<u32, FixedStop>
+    ensures lines { OnOk result (ShowsElement element.entry (under path.now name.now) from.entry lister.old.out lister.new.out) }
+    ensures end { IfOk result (IsBitAfter from.entry element.entry.width) }
+    ensures stop { IfErr result (IsStopped from.entry element.entry.width) }
 {
-    let here = pass(body, at, width)?;
-    if width > 56 {
-        show_wide_element(lister, name, width, content, body, here, path)?;
-        return Ok(());
+    let end = bit_after(from, element.width)?;
+    if element.width > 56 {
+        show_wide_element(lister, name, element, from, path)?;
+        return Ok(end);
     }
-    let number = number_at(body, here, width);
-    put_under(lister, number, width, content, path, name)?;
-    Ok(())
+    let number = number_at(from, element.width);
+    put_under(lister, number, element, path, name)?;
+    Ok(end)
 }
 
 /// The line of an element of that name and of more bits than are read at once.
@@ -56,45 +50,37 @@ fn show_element(
 fn show_wide_element(
     lister: &mut Lister,
     name: &Name,
-    width: u32,
-    content: &HeldContent<'_>,
-    body: &[u8],
-    at: u32,
+    element: Element<'_, '_>,
+    from: BitPlace<'_>,
     path: &LinePath,
 ) -> Result<(), AllocError>
-    requires width { IsWidth width }
-    requires content { ContentListable width (held_content content.now) }
-    requires within { at + width ≤ 8 * length body.now }
-    ensures lines { OnOk result (ShowsElement width (held_content content.now) (under path.now name.now) body.now at lister.old.out lister.new.out) }
+    requires within { from.at + element.width ≤ 8 * length from.body.now }
+    ensures lines { OnOk result (ShowsElement element.entry (under path.now name.now) from.entry lister.old.out lister.new.out) }
 {
     let mut inner = lister.blank_path();
     set_named(&mut inner, path, name)?;
-    let number = wide_number_at(body, at, width);
-    put_at(lister, number, width, content, &inner)
+    let number = wide_number_at(from, element.width);
+    put_at(lister, number, element, &inner)
 }
 
-/// The line of an element of few bits, from bit `at` of the body on, which is moved after them: one of those that were made.
+/// The line of an element of few bits, which are those from there on: one of the lines that were made. Ok is the bit after them.
 #[inline(always)]
 #[tactic(auto, using(crate::proofs::ShortLines::shorts, crate::proofs::Stops::stops))]
 fn show_short(
     lister: &mut Lister,
     short: &ShortElement<'_>,
-    body: &[u8],
-    at: &mut u32,
+    from: BitPlace<'_>,
     path: &LinePath,
-) -> Result<(), FixedStop>
+) -> Result<u32, FixedStop>
     requires width { IsWidth short.now.width }
-    requires place { at.old ≤ 8 * length body.now }
-    requires body { length body.now ≤ longest_body }
-    ensures lines { OnOk result (ShowsShort short.now path.now body.now at.old lister.old.out lister.new.out) }
-    ensures at { OnOk result (at.new ≡ at.old + short.now.width) }
-    ensures within { OnOk result (at.new ≤ 8 * length body.now) }
-    ensures stop { IfErr result (IsStopped body.now at.old short.now.width) }
+    ensures lines { OnOk result (ShowsShort short.now path.now from.entry lister.old.out lister.new.out) }
+    ensures end { IfOk result (IsBitAfter from.entry short.now.width) }
+    ensures stop { IfErr result (IsStopped from.entry short.now.width) }
 {
-    let here = pass(body, at, short.width)?;
-    let number = number_at(body, here, short.width);
+    let end = bit_after(from, short.width)?;
+    let number = number_at(from, short.width);
     lister.literal_under(short.line(number), path)?;
-    Ok(())
+    Ok(end)
 }
 
 /// The line of so many spare bits, more than are read at once.
@@ -103,70 +89,71 @@ fn show_short(
 fn show_wide_spare(
     lister: &mut Lister,
     width: u32,
-    body: &[u8],
-    at: u32,
+    from: BitPlace<'_>,
     path: &LinePath,
 ) -> Result<(), AllocError>
     requires width { IsWidth width }
-    requires within { at + width ≤ 8 * length body.now }
-    ensures lines { OnOk result (ShowsSpare width path.now body.now at lister.old.out lister.new.out) }
+    requires within { from.at + width ≤ 8 * length from.body.now }
+    ensures lines { OnOk result (ShowsSpare width path.now from.entry lister.old.out lister.new.out) }
 {
-    lister.wide_spare_under(wide_number_at(body, at, width), path)
+    lister.wide_spare_under(wide_number_at(from, width), path)
 }
 
-/// The lines of the value in the bits from bit `at` of the body on, which is moved after them.
+/// The lines of the value in the bits from there on. Ok is the bit after them.
 #[tactic(auto, using(crate::proofs::Members::elements, crate::proofs::Stops::stops))]
 pub(crate) fn show_fixed(
     lister: &mut Lister,
     fixed: &HeldFixed<'_>,
-    body: &[u8],
-    at: &mut u32,
+    from: BitPlace<'_>,
     path: &LinePath,
-) -> Result<(), FixedStop>
+) -> Result<u32, FixedStop>
     requires bounds { FixedInBounds (held_fixed fixed.now) }
     requires listable { FixedListable (held_fixed fixed.now) }
-    requires place { at.old ≤ 8 * length body.now }
-    requires body { length body.now ≤ longest_body }
-    ensures lines { OnOk result (ShowsFixed (held_fixed fixed.now) path.now body.now at.old lister.old.out lister.new.out) }
-    ensures at { OnOk result (at.new ≡ at.old + width (held_fixed fixed.now)) }
-    ensures within { OnOk result (at.new ≤ 8 * length body.now) }
-    ensures stop { IfErr result (IsStopped body.now at.old (width (held_fixed fixed.now))) }
+    ensures lines { OnOk result (ShowsFixed (held_fixed fixed.now) path.now from.entry lister.old.out lister.new.out) }
+    ensures end { IfOk result (IsBitAfter from.entry (width (held_fixed fixed.now))) }
+    ensures stop { IfErr result (IsStopped from.entry (width (held_fixed fixed.now))) }
 {
     match fixed {
         HeldFixed::Element { width, content } => {
-            let here = pass(body, at, *width)?;
-            let number = wide_number_at(body, here, *width);
-            put_at(lister, number, *width, content, path)?;
-            Ok(())
+            let end = bit_after(from, *width)?;
+            let number = wide_number_at(from, *width);
+            let element = Element {
+                width: *width,
+                content,
+            };
+            put_at(lister, number, element, path)?;
+            Ok(end)
         }
-        HeldFixed::Group(members) => show_members(lister, members, body, at, path),
+        HeldFixed::Group(members) => show_members(lister, members, from, path),
     }
 }
 
-/// The lines of members, one after the other. The loop stands here alone, so that the members' lines are put within it.
+/// The lines of members, one after the other. Ok is the bit after them. The loop stands here alone, so that the members' lines
+/// are put within it.
 #[inline(never)]
 #[cycle(show_members)]
 #[tactic(auto, using(crate::proofs::Members::members, crate::proofs::Stops::stops))]
 pub(crate) fn show_members(
     lister: &mut Lister,
     members: &HeldMembers<'_>,
-    body: &[u8],
-    at: &mut u32,
+    from: BitPlace<'_>,
     path: &LinePath,
-) -> Result<(), FixedStop>
+) -> Result<u32, FixedStop>
     requires bounds { MembersInBounds (held_members members.now) }
     requires listable { MembersListable (held_members members.now) }
-    requires place { at.old ≤ 8 * length body.now }
-    requires body { length body.now ≤ longest_body }
-    ensures lines { OnOk result (ShowsMembers (held_members members.now) path.now body.now at.old lister.old.out lister.new.out) }
-    ensures at { OnOk result (at.new ≡ at.old + members_width (held_members members.now)) }
-    ensures within { OnOk result (at.new ≤ 8 * length body.now) }
-    ensures stop { IfErr result (IsStopped body.now at.old (members_width (held_members members.now))) }
+    ensures lines { OnOk result (ShowsMembers (held_members members.now) path.now from.entry lister.old.out lister.new.out) }
+    ensures end { IfOk result (IsBitAfter from.entry (members_width (held_members members.now))) }
+    ensures stop { IfErr result (IsStopped from.entry (members_width (held_members members.now))) }
 {
+    let mut at = from.at;
     for member in members.as_slice() {
-        show_member(lister, member, body, at, path)?;
+        let next = BitPlace {
+            body: from.body,
+            at,
+        };
+        at = show_member(lister, member, next, path)?;
     }
-    Ok(())
+    Ok(at)
 }
 
 #[cycle(show_members)]
@@ -174,30 +161,26 @@ pub(crate) fn show_members(
 fn show_member(
     lister: &mut Lister,
     member: &HeldMember<'_>,
-    body: &[u8],
-    at: &mut u32,
+    from: BitPlace<'_>,
     path: &LinePath,
-) -> Result<(), FixedStop>
+) -> Result<u32, FixedStop>
     requires bounds { MemberInBounds (held_member member.now) }
     requires listable { MemberListable (held_member member.now) }
-    requires place { at.old ≤ 8 * length body.now }
-    requires body { length body.now ≤ longest_body }
-    ensures lines { OnOk result (ShowsMember (held_member member.now) path.now body.now at.old lister.old.out lister.new.out) }
-    ensures at { OnOk result (at.new ≡ at.old + member_width (held_member member.now)) }
-    ensures within { OnOk result (at.new ≤ 8 * length body.now) }
-    ensures stop { IfErr result (IsStopped body.now at.old (member_width (held_member member.now))) }
+    ensures lines { OnOk result (ShowsMember (held_member member.now) path.now from.entry lister.old.out lister.new.out) }
+    ensures end { IfOk result (IsBitAfter from.entry (member_width (held_member member.now))) }
+    ensures stop { IfErr result (IsStopped from.entry (member_width (held_member member.now))) }
 {
     match member {
-        HeldMember::Named { name, fixed } => show_named(lister, name, fixed, body, at, path),
-        HeldMember::Short(short) => show_short(lister, short, body, at, path),
+        HeldMember::Named { name, fixed } => show_named(lister, name, fixed, from, path),
+        HeldMember::Short(short) => show_short(lister, short, from, path),
         HeldMember::Spare { width } => {
-            let here = pass(body, at, *width)?;
+            let end = bit_after(from, *width)?;
             if *width > 56 {
-                show_wide_spare(lister, *width, body, here, path)?;
-                return Ok(());
+                show_wide_spare(lister, *width, from, path)?;
+                return Ok(end);
             }
-            lister.spare_under(number_at(body, here, *width), path)?;
-            Ok(())
+            lister.spare_under(number_at(from, *width), path)?;
+            Ok(end)
         }
     }
 }
@@ -210,24 +193,24 @@ pub(crate) fn show_named(
     lister: &mut Lister,
     name: &Name,
     fixed: &HeldFixed<'_>,
-    body: &[u8],
-    at: &mut u32,
+    from: BitPlace<'_>,
     path: &LinePath,
-) -> Result<(), FixedStop>
+) -> Result<u32, FixedStop>
     requires bounds { FixedInBounds (held_fixed fixed.now) }
     requires listable { FixedListable (held_fixed fixed.now) }
-    requires place { at.old ≤ 8 * length body.now }
-    requires body { length body.now ≤ longest_body }
-    ensures lines { OnOk result (ShowsFixed (held_fixed fixed.now) (under path.now name.now) body.now at.old lister.old.out lister.new.out) }
-    ensures at { OnOk result (at.new ≡ at.old + width (held_fixed fixed.now)) }
-    ensures within { OnOk result (at.new ≤ 8 * length body.now) }
-    ensures stop { IfErr result (IsStopped body.now at.old (width (held_fixed fixed.now))) }
+    ensures lines { OnOk result (ShowsFixed (held_fixed fixed.now) (under path.now name.now) from.entry lister.old.out lister.new.out) }
+    ensures end { IfOk result (IsBitAfter from.entry (width (held_fixed fixed.now))) }
+    ensures stop { IfErr result (IsStopped from.entry (width (held_fixed fixed.now))) }
 {
     match fixed {
         HeldFixed::Element { width, content } => {
-            show_element(lister, name, *width, content, body, at, path)
+            let element = Element {
+                width: *width,
+                content,
+            };
+            show_element(lister, name, element, from, path)
         }
-        HeldFixed::Group(members) => show_group(lister, name, members, body, at, path),
+        HeldFixed::Group(members) => show_group(lister, name, members, from, path),
     }
 }
 
@@ -239,20 +222,16 @@ fn show_group(
     lister: &mut Lister,
     name: &Name,
     members: &HeldMembers<'_>,
-    body: &[u8],
-    at: &mut u32,
+    from: BitPlace<'_>,
     path: &LinePath,
-) -> Result<(), FixedStop>
+) -> Result<u32, FixedStop>
     requires bounds { MembersInBounds (held_members members.now) }
     requires listable { MembersListable (held_members members.now) }
-    requires place { at.old ≤ 8 * length body.now }
-    requires body { length body.now ≤ longest_body }
-    ensures lines { OnOk result (ShowsMembers (held_members members.now) (under path.now name.now) body.now at.old lister.old.out lister.new.out) }
-    ensures at { OnOk result (at.new ≡ at.old + members_width (held_members members.now)) }
-    ensures within { OnOk result (at.new ≤ 8 * length body.now) }
-    ensures stop { IfErr result (IsStopped body.now at.old (members_width (held_members members.now))) }
+    ensures lines { OnOk result (ShowsMembers (held_members members.now) (under path.now name.now) from.entry lister.old.out lister.new.out) }
+    ensures end { IfOk result (IsBitAfter from.entry (members_width (held_members members.now))) }
+    ensures stop { IfErr result (IsStopped from.entry (members_width (held_members members.now))) }
 {
     let mut inner = lister.blank_path();
     set_named(&mut inner, path, name)?;
-    show_members(lister, members, body, at, &inner)
+    show_members(lister, members, from, &inner)
 }

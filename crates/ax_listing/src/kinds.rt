@@ -1,17 +1,15 @@
 //! The kinds of items and subitems, shown by one function each.
-ghost use Rattle.std.specs.Prelude.{◌≡◌, ◌+◌, ◌<◌, ◌≤◌, length, map, IfOk, IfErr};
-ghost use Rattle.ax_bits.specs.Bits.{AreBits};
+ghost use Rattle.std.specs.Prelude.{IfOk, IfErr};
 ghost use Rattle.ax_format.specs.InBounds.{InBounds, SlotsInBounds};
-ghost use Rattle.ax_format.specs.Paths.{at as under};
 ghost use Rattle.ax_held_kinds.specs.Held.{held_kind, held_slot, held_slots};
-ghost use Rattle.ax_format.specs.Sizes.{longest_body};
 ghost use Rattle.ax_format.specs.Tree as Tree;
-ghost use Rattle.ax_fspec.specs.Reading.{SlotInBounds, kind_read};
+ghost use Rattle.ax_fspec.specs.Reading.{SlotInBounds};
 ghost use Rattle.ax_text_form.specs.Listable.{KindListable, SlotListable, SlotsListable};
-ghost use Rattle.ax_values.specs.SlotReading.{HasFailed, HasSlotFailed};
-ghost use Rattle.ax_listing.specs.Shown.{Shows, IsSlotShown, ShowsRepeated, ShowsSubitems};
+ghost use Rattle.ax_values.specs.SlotReading.{HasSlotFailed};
+ghost use Rattle.ax_listing.specs.Shown.{FailsFrom, ShowsFrom, ShowsUnder, IsSlotShown, ShowsRepeated, ShowsSubitems};
 
 use crate::paths::{set_named, set_numbered};
+use crate::place::Place;
 use crate::units::{show_alone, show_by_fx, show_extended, show_single};
 use ax_format::{Counter, Name};
 use ax_fspec::Presence;
@@ -20,51 +18,41 @@ use ax_octets::LinePath;
 use ax_text_form::Lister;
 use ax_values::{DecodeError, counter_at, explicit_content};
 
-/// The lines of the value of a kind that begins at octet `at` of the body. Ok is the octet after it.
+/// The lines of the value of a kind that begins at a place. Ok is the octet after it.
 #[cycle(show_kind)]
 pub(crate) fn show_value(
     lister: &mut Lister,
     kind: &HeldKind<'_>,
-    body: &[u8],
-    at: u32,
+    from: Place<'_>,
     path: &LinePath,
 ) -> Result<u32, DecodeError>
     requires bounds { InBounds (held_kind kind.now) }
     requires listable { KindListable (held_kind kind.now) }
-    requires body { length body.now ≤ longest_body }
-    requires at { at ≤ length body.now }
-    ensures ok { IfOk result (λ end. Shows (held_kind kind.now) path.now body.now at end lister.old.out lister.new.out) }
-    ensures err { IfErr result (λ e. HasFailed (kind_read (held_kind kind.now) body.now at) at e) }
+    ensures ok { IfOk result (λ end. ShowsFrom (held_kind kind.now) path.now from.entry end lister.old.out lister.new.out) }
+    ensures err { IfErr result (FailsFrom (held_kind kind.now) from.entry) }
 {
     match kind {
-        HeldKind::Fixed(fixed) => show_alone(lister, fixed, body, at, path),
-        HeldKind::Extended { last, parts } => show_extended(lister, *last, parts, body, at, path),
+        HeldKind::Fixed(fixed) => show_alone(lister, fixed, from, path),
+        HeldKind::Extended { last, parts } => show_extended(lister, *last, parts, from, path),
         HeldKind::Counted { counter, inner } => {
-            show_counted(lister, *counter, inner, body, at, path)
+            show_counted(lister, *counter, inner, from, path)
         }
-        HeldKind::ByFx(fixed) => show_by_fx(lister, fixed, body, at, path),
-        HeldKind::Explicit => show_explicit(lister, body, at, path),
-        HeldKind::Compound(slots) => show_compound(lister, slots, body, at, path),
+        HeldKind::ByFx(fixed) => show_by_fx(lister, fixed, from, path),
+        HeldKind::Explicit => show_explicit(lister, from, path),
+        HeldKind::Compound(slots) => show_compound(lister, slots, from, path),
     }
 }
 
 /// The line of an explicit item. Ok is the octet after it.
 #[tactic(auto, using(ax_values::proofs::Continuing::errors))]
-fn show_explicit(
-    lister: &mut Lister,
-    body: &[u8],
-    at: u32,
-    path: &LinePath,
-) -> Result<u32, DecodeError>
+fn show_explicit(lister: &mut Lister, from: Place<'_>, path: &LinePath) -> Result<u32, DecodeError>
     requires bounds { InBounds (Tree.explicit) }
-    requires body { length body.now ≤ longest_body }
-    requires at { at ≤ length body.now }
-    ensures ok { IfOk result (λ end. Shows Tree.explicit path.now body.now at end lister.old.out lister.new.out) }
-    ensures err { IfErr result (λ e. HasFailed (kind_read (Tree.explicit) body.now at) at e) }
+    ensures ok { IfOk result (λ end. ShowsFrom Tree.explicit path.now from.entry end lister.old.out lister.new.out) }
+    ensures err { IfErr result (FailsFrom (Tree.explicit) from.entry) }
 {
-    let content = explicit_content(body, at)?;
+    let content = explicit_content(from.body, from.at)?;
     lister.content_at(content, path)?;
-    Ok(at + 1 + content.len() as u32)
+    Ok(from.at + 1 + content.len() as u32)
 }
 
 /// A counted or wide item: how many occurrences there are, and each of them. Ok is the octet after it.
@@ -74,20 +62,17 @@ fn show_counted(
     lister: &mut Lister,
     size: Counter,
     inner: &HeldKind<'_>,
-    body: &[u8],
-    at: u32,
+    from: Place<'_>,
     path: &LinePath,
 ) -> Result<u32, DecodeError>
     requires bounds { InBounds (Tree.counted size (held_kind inner.now)) }
     requires listable { KindListable (held_kind inner.now) }
-    requires body { length body.now ≤ longest_body }
-    requires at { at ≤ length body.now }
-    ensures ok { IfOk result (λ end. Shows (Tree.counted size (held_kind inner.now)) path.now body.now at end lister.old.out lister.new.out) }
-    ensures err { IfErr result (λ e. HasFailed (kind_read (Tree.counted size (held_kind inner.now)) body.now at) at e) }
+    ensures ok { IfOk result (λ end. ShowsFrom (Tree.counted size (held_kind inner.now)) path.now from.entry end lister.old.out lister.new.out) }
+    ensures err { IfErr result (FailsFrom (Tree.counted size (held_kind inner.now)) from.entry) }
 {
     lister.none_of(b"occurrences", path)?;
     let line = lister.len();
-    let (end, count) = show_each(lister, size, inner, body, at, path)?;
+    let (end, count) = show_each(lister, size, inner, from, path)?;
     lister.set_count(line, count)?;
     Ok(end)
 }
@@ -99,23 +84,24 @@ fn show_each(
     lister: &mut Lister,
     size: Counter,
     inner: &HeldKind<'_>,
-    body: &[u8],
-    at: u32,
+    from: Place<'_>,
     path: &LinePath,
 ) -> Result<(u32, u32), DecodeError>
     requires bounds { InBounds (Tree.counted size (held_kind inner.now)) }
     requires listable { KindListable (held_kind inner.now) }
-    requires body { length body.now ≤ longest_body }
-    requires at { at ≤ length body.now }
-    ensures ok { IfOk result (λ r. ShowsRepeated (Tree.counted size (held_kind inner.now)) path.now body.now at r.0 lister.old.out lister.new.out r.1) }
-    ensures err { IfErr result (λ e. HasFailed (kind_read (Tree.counted size (held_kind inner.now)) body.now at) at e) }
+    ensures ok { IfOk result (λ r. ShowsRepeated (Tree.counted size (held_kind inner.now)) path.now from.entry r.0 lister.old.out lister.new.out r.1) }
+    ensures err { IfErr result (FailsFrom (Tree.counted size (held_kind inner.now)) from.entry) }
 {
-    let count = counter_at(body, at, size)?;
-    let mut here = at + size.octets();
+    let count = counter_at(from.body, from.at, size)?;
+    let mut here = from.at + size.octets();
     let mut each = lister.blank_path();
     for number in 0..count {
         set_numbered(&mut each, path, number)?;
-        here = show_value(lister, inner, body, here, &each)?;
+        let next = Place {
+            body: from.body,
+            at: here,
+        };
+        here = show_value(lister, inner, next, &each)?;
     }
     Ok((here, count))
 }
@@ -126,20 +112,17 @@ fn show_each(
 fn show_compound(
     lister: &mut Lister,
     slots: &HeldSlots<'_>,
-    body: &[u8],
-    at: u32,
+    from: Place<'_>,
     path: &LinePath,
 ) -> Result<u32, DecodeError>
     requires bounds { InBounds (Tree.compound (held_slots slots.now)) }
     requires listable { SlotsListable (held_slots slots.now) }
-    requires body { length body.now ≤ longest_body }
-    requires at { at ≤ length body.now }
-    ensures ok { IfOk result (λ end. Shows (Tree.compound (held_slots slots.now)) path.now body.now at end lister.old.out lister.new.out) }
-    ensures err { IfErr result (λ e. HasFailed (kind_read (Tree.compound (held_slots slots.now)) body.now at) at e) }
+    ensures ok { IfOk result (λ end. ShowsFrom (Tree.compound (held_slots slots.now)) path.now from.entry end lister.old.out lister.new.out) }
+    ensures err { IfErr result (FailsFrom (Tree.compound (held_slots slots.now)) from.entry) }
 {
     lister.none_of(b"subitems", path)?;
     let line = lister.len();
-    let (end, count) = show_subitems(lister, slots, body, at, path)?;
+    let (end, count) = show_subitems(lister, slots, from, path)?;
     lister.set_count(line, count)?;
     Ok(end)
 }
@@ -150,23 +133,24 @@ fn show_compound(
 fn show_subitems(
     lister: &mut Lister,
     slots: &HeldSlots<'_>,
-    body: &[u8],
-    at: u32,
+    from: Place<'_>,
     path: &LinePath,
 ) -> Result<(u32, u32), DecodeError>
     requires bounds { InBounds (Tree.compound (held_slots slots.now)) }
     requires listable { SlotsListable (held_slots slots.now) }
-    requires body { length body.now ≤ longest_body }
-    requires at { at ≤ length body.now }
-    ensures ok { IfOk result (λ r. ShowsSubitems (held_slots slots.now) path.now body.now at r.0 lister.old.out lister.new.out r.1) }
-    ensures err { IfErr result (λ e. HasFailed (kind_read (Tree.compound (held_slots slots.now)) body.now at) at e) }
+    ensures ok { IfOk result (λ r. ShowsSubitems (held_slots slots.now) path.now from.entry r.0 lister.old.out lister.new.out r.1) }
+    ensures err { IfErr result (FailsFrom (Tree.compound (held_slots slots.now)) from.entry) }
 {
     let all = slots.as_slice();
     let mut left = Presence::empty();
-    let mut here = read_field(all, body, at, &mut left)?;
+    let mut here = read_field(all, from.body, from.at, &mut left)?;
     let mut count = 0;
     while let Some(number) = left.take_first() {
-        here = show_slot(lister, &all[number as usize - 1], body, here, path)?;
+        let next = Place {
+            body: from.body,
+            at: here,
+        };
+        here = show_slot(lister, &all[number as usize - 1], next, path)?;
         count += 1;
     }
     Ok((here, count))
@@ -178,21 +162,18 @@ fn show_subitems(
 pub(crate) fn show_slot(
     lister: &mut Lister,
     slot: &HeldSlot<'_>,
-    body: &[u8],
-    at: u32,
+    from: Place<'_>,
     path: &LinePath,
 ) -> Result<u32, DecodeError>
     requires bounds { SlotInBounds (held_slot slot.now) }
     requires listable { SlotListable (held_slot slot.now) }
-    requires body { length body.now ≤ longest_body }
-    requires at { at ≤ length body.now }
-    ensures ok { IfOk result (λ end. IsSlotShown (held_slot slot.now) path.now body.now at end lister.old.out lister.new.out) }
-    ensures err { IfErr result (λ e. HasSlotFailed (held_slot slot.now) body.now at e) }
+    ensures ok { IfOk result (λ end. IsSlotShown (held_slot slot.now) path.now from.entry.body.now from.entry.at end lister.old.out lister.new.out) }
+    ensures err { IfErr result (HasSlotFailed (held_slot slot.now) from.entry.body.now from.entry.at) }
 {
     match slot {
-        HeldSlot::Spare => Ok(at),
+        HeldSlot::Spare => Ok(from.at),
         HeldSlot::Sub { name, kind } => {
-            let end = show_under(lister, name, kind, body, at, path)?;
+            let end = show_under(lister, name, kind, from, path)?;
             Ok(end)
         }
     }
@@ -206,22 +187,19 @@ fn show_under(
     lister: &mut Lister,
     name: &Name,
     kind: &HeldKind<'_>,
-    body: &[u8],
-    at: u32,
+    from: Place<'_>,
     path: &LinePath,
 ) -> Result<u32, DecodeError>
     requires bounds { InBounds (held_kind kind.now) }
     requires listable { KindListable (held_kind kind.now) }
-    requires body { length body.now ≤ longest_body }
-    requires at { at ≤ length body.now }
-    ensures ok { IfOk result (λ end. Shows (held_kind kind.now) (under path.now name.now) body.now at end lister.old.out lister.new.out) }
-    ensures err { IfErr result (λ e. HasFailed (kind_read (held_kind kind.now) body.now at) at e) }
+    ensures ok { IfOk result (λ end. ShowsUnder (held_kind kind.now) path.now name.now from.entry end lister.old.out lister.new.out) }
+    ensures err { IfErr result (FailsFrom (held_kind kind.now) from.entry) }
 {
     if let HeldKind::Fixed(fixed) = kind {
-        return show_single(lister, name, fixed, body, at, path);
+        return show_single(lister, name, fixed, from, path);
     }
     let mut inner = lister.blank_path();
     set_named(&mut inner, path, name)?;
-    let end = show_value(lister, kind, body, at, &inner)?;
+    let end = show_value(lister, kind, from, &inner)?;
     Ok(end)
 }

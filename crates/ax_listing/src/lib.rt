@@ -4,11 +4,16 @@
 mod block;
 mod body;
 mod contents;
+mod element;
 mod fixed;
 mod kinds;
+mod masked_items;
+mod numbered;
 mod numbers;
 mod paths;
+mod place;
 mod records;
+mod room;
 mod stop;
 mod tables;
 mod units;

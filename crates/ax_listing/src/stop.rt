@@ -1,10 +1,11 @@
 //! Why a fixed kind isn't shown.
-ghost use Rattle.std.specs.Prelude.{◌≡◌, ◌+◌, ◌*◌, ◌≤◌, length, IfOk, IfErr, OnOk};
+ghost use Rattle.std.specs.Prelude.{◌≡◌, ◌≤◌, IfOk, IfErr};
 ghost use Rattle.ax_format.specs.InBounds.{IsWidth};
 ghost use Rattle.ax_format.specs.Sizes.{longest_body};
-ghost use Rattle.ax_listing.specs.Stopped.{IsStopped, IsUnitStop};
+ghost use Rattle.ax_listing.specs.Stopped.{IsBitAfter, IsStopped, IsUnitStop};
 ghost use Rattle.ax_listing.specs.declared.stop.FixedStop.TheVariants as Stop;
 
+use crate::place::BitPlace;
 use ax_format::{BodyCause, BodyFault};
 use ax_values::DecodeError;
 use std::alloc::AllocError;
@@ -42,22 +43,17 @@ impl FixedStop {
     }
 }
 
-/// Moves a place in a body after `width` bits, and answers where these begin. RunsOut comes where the body ends before they do:
-/// judged element by element, so the width of a group isn't summed up before it is shown.
+/// The bit after the `width` bits from there on. RunsOut comes where the body ends before they do: judged element by element, so
+/// the width of a group isn't summed up before it is shown.
 #[inline(always)]
-pub(crate) fn pass(body: &[u8], at: &mut u32, width: u32) -> Result<u32, FixedStop>
+pub(crate) fn bit_after(from: BitPlace<'_>, width: u32) -> Result<u32, FixedStop>
     requires width { IsWidth width }
-    requires body { length body.now ≤ longest_body }
-    requires at { at.old ≤ 8 * length body.now }
-    ensures begin { IfOk result (λ begin. begin ≡ at.old) }
-    ensures at { OnOk result (at.new ≡ at.old + width) }
-    ensures within { OnOk result (at.new ≤ 8 * length body.now) }
-    ensures stop { IfErr result (IsStopped body.now at.old width) }
+    ensures end { IfOk result (IsBitAfter from.entry width) }
+    ensures stop { IfErr result (IsStopped from.entry width) }
 {
-    let begin = *at;
-    if begin + width > 8 * body.len() as u32 {
+    let end = from.at + width;
+    if end > 8 * from.body.len() as u32 {
         return Err(FixedStop::RunsOut);
     }
-    *at = begin + width;
-    Ok(begin)
+    Ok(end)
 }

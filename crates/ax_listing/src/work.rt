@@ -1,11 +1,12 @@
 //! `show` over the blocks of an input.
-ghost use Rattle.std.specs.Prelude.{◌≡◌, length, IfOk};
+ghost use Rattle.std.specs.Prelude.{◌≡◌, IfOk};
 ghost use Rattle.ax_format.specs.Plain.{catalogue_tree};
-ghost use Rattle.ax_format.specs.Sizes.{longest_block};
 ghost use Rattle.ax_codec.specs.Standing.{StandForEach};
 ghost use Rattle.ax_listing.specs.ShowCommand.{show_command};
 
 use crate::block::list_block;
+use crate::numbered::NumberedBlock;
+use crate::room::ListingRoom;
 use crate::tables::{ListedUaps, tables_of};
 use ax_blocks::{BlockStop, BlockWork, WorkStop, write_piece};
 use ax_canon::blank_output;
@@ -24,9 +25,7 @@ pub struct ShowViews<'c> {
     catalogue: &'c Catalogue,
     codecs: &'c Codecs,
     tables: ListedUaps<'c>,
-    output: Vec<u8>,
-    lister: Lister,
-    ghost room: { length output.items ≡ longest_block },
+    room: ListingRoom,
 }
 
 impl<'c> ShowViews<'c> {
@@ -46,8 +45,10 @@ impl<'c> ShowViews<'c> {
             catalogue,
             codecs,
             tables,
-            output,
-            lister: Lister::new(alloc),
+            room: ListingRoom {
+                lister: Lister::new(alloc),
+                output,
+            },
         })
     }
 }
@@ -72,15 +73,13 @@ impl<'c> BlockWork for ShowViews<'c> {
         out: &mut K,
     ) -> Result<(), WorkStop> {
         match list_block(
-            &mut self.lister,
-            &mut self.output,
+            &mut self.room,
             self.codecs,
             &self.tables,
             self.catalogue,
-            number,
-            raw,
+            NumberedBlock { number, raw },
         ) {
-            Ok(()) => write_piece(out, self.lister.listing()),
+            Ok(()) => write_piece(out, self.room.lister.listing()),
             Err(BlockStop::Fault(fault)) => Err(WorkStop::Fault(fault)),
             Err(BlockStop::OutOfMemory) => Err(WorkStop::OutOfMemory),
         }

@@ -13,7 +13,7 @@ show_members-loop-member-preserved t c =
     let within : i < length all = subst (λ xs. i < length xs) same c.loop-member-test.true in
     let is : m ≡ get_or all i m = subst (λ xs. m ≡ get_or xs i m) same c.member-item.is in
     record {
-      within = c.in_ok-show_member.ensures.within;
-      shown = member_next (held_members all) all i m (bits c.args.body.now) c.args.at.now c.loop-member.at c.args.path.now c.args.lister.now.out c.loop-member.lister.out c.loop-member.invariant.shown within is
-          c.show_member.new.at c.show_member.new.lister.out c.in_ok-show_member.ensures.lines c.in_ok-show_member.ensures.at;
+      within = c.in_ok-at.ensures.end.1;
+      shown = member_next (held_members all) all i m (bits c.args.from.body.now) c.args.from.at c.loop-member.at c.args.path.now c.args.lister.now.out c.loop-member.lister.out c.loop-member.invariant.shown within is
+          c.in_ok-at.at c.show_member.new.lister.out c.in_ok-at.ensures.lines c.in_ok-at.ensures.end.0;
     }

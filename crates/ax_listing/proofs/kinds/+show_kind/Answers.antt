@@ -23,20 +23,20 @@ use Rattle.ax_listing.proofs.kinds.+show_kind.Goals as goal
 
 pub show_counted-set_count-requires : goal.show_counted-set_count-requires
 show_counted-set_count-requires t c =
-    counted_longer (counted c.args.size (held_kind c.args.inner.now)) c.args.path.now (codes "occurrences") c.args.body.now c.args.at c.in_ok-end.end c.len-line.result c.args.lister.now.out c.none_of.new.self.out c.show_each.new.lister.out c.in_ok-end.count c.in_ok-none_of.ensures c.len-line.ensures c.in_ok-end.ensures.ok
+    counted_longer (counted c.args.size (held_kind c.args.inner.now)) c.args.path.now (codes "occurrences") c.args.from.body.now c.args.from.at c.in_ok-end.end c.len-line.result c.args.lister.now.out c.none_of.new.self.out c.show_each.new.lister.out c.in_ok-end.count c.in_ok-none_of.ensures c.len-line.ensures c.in_ok-end.ensures.ok
 
 pub show_counted-returns-clause-ok : goal.show_counted-returns-clause-ok
 show_counted-returns-clause-ok t c =
-    counted_shown (counted c.args.size (held_kind c.args.inner.now)) c.args.path.now (codes "occurrences") c.args.body.now c.args.at c.in_ok-end.end c.len-line.result c.args.lister.now.out c.none_of.new.self.out c.show_each.new.lister.out c.set_count.new.self.out c.in_ok-end.count
+    counted_shown (counted c.args.size (held_kind c.args.inner.now)) c.args.path.now (codes "occurrences") c.args.from.body.now c.args.from.at c.in_ok-end.end c.len-line.result c.args.lister.now.out c.none_of.new.self.out c.show_each.new.lister.out c.set_count.new.self.out c.in_ok-end.count
     c.in_ok-none_of.ensures c.len-line.ensures c.in_ok-end.ensures.ok c.in_ok-set_count.ensures
 
 pub show_compound-set_count-requires : goal.show_compound-set_count-requires
 show_compound-set_count-requires t c =
-    counted_longer (compound (held_slots c.args.slots.now)) c.args.path.now (codes "subitems") c.args.body.now c.args.at c.in_ok-end.end c.len-line.result c.args.lister.now.out c.none_of.new.self.out c.show_subitems.new.lister.out c.in_ok-end.count c.in_ok-none_of.ensures c.len-line.ensures c.in_ok-end.ensures.ok
+    counted_longer (compound (held_slots c.args.slots.now)) c.args.path.now (codes "subitems") c.args.from.body.now c.args.from.at c.in_ok-end.end c.len-line.result c.args.lister.now.out c.none_of.new.self.out c.show_subitems.new.lister.out c.in_ok-end.count c.in_ok-none_of.ensures c.len-line.ensures c.in_ok-end.ensures.ok
 
 pub show_compound-returns-clause-ok : goal.show_compound-returns-clause-ok
 show_compound-returns-clause-ok t c =
-    counted_shown (compound (held_slots c.args.slots.now)) c.args.path.now (codes "subitems") c.args.body.now c.args.at c.in_ok-end.end c.len-line.result c.args.lister.now.out c.none_of.new.self.out c.show_subitems.new.lister.out c.set_count.new.self.out c.in_ok-end.count
+    counted_shown (compound (held_slots c.args.slots.now)) c.args.path.now (codes "subitems") c.args.from.body.now c.args.from.at c.in_ok-end.end c.len-line.result c.args.lister.now.out c.none_of.new.self.out c.show_subitems.new.lister.out c.set_count.new.self.out c.in_ok-end.count
     c.in_ok-none_of.ensures c.len-line.ensures c.in_ok-end.ensures.ok c.in_ok-set_count.ensures
 
 -- ---- occurrences
@@ -45,31 +45,31 @@ pub show_each-returns-in_err-count-clause-err : goal.show_each-returns-in_err-co
 show_each-returns-in_err-count-clause-err t c =
     let k = held_kind c.args.inner.now in
     let fault = c.in_err-count.field-0.0 in
-    err_by_fault (kind_read (counted c.args.size k) c.args.body.now c.args.at) c.args.at c.from_residual.result fault c.from_residual.ensures.1
-    (counted_none c.args.size k c.args.body.now c.args.at fault c.in_err-count.ensures.short (ap (λ f. f.cause) c.in_err-count.ensures.fault) (ap (λ f. f.bit) c.in_err-count.ensures.fault))
+    err_by_fault (kind_read (counted c.args.size k) c.args.from.body.now c.args.from.at) c.args.from.at c.from_residual.result fault c.from_residual.ensures.1
+    (counted_none c.args.size k c.args.from.body.now c.args.from.at fault c.in_err-count.ensures.short (ap (λ f. f.cause) c.in_err-count.ensures.fault) (ap (λ f. f.bit) c.in_err-count.ensures.fault))
 
 pub show_each-loop-number-init : goal.show_each-loop-number-init
 show_each-loop-number-init t c =
     let k = held_kind c.args.inner.now in
     let out = c.args.lister.now.out in
-    subst (λ m. CountShown c.args.size k c.args.path.now c.args.body.now c.in_ok-count.count 0 c.args.at (c.args.at + m) out out) (sym c.octets.ensures)
-    (count_first c.args.size k c.args.path.now c.args.body.now c.in_ok-count.count c.args.at out c.in_ok-count.ensures.count)
+    subst (λ m. CountShown c.args.size k c.args.path.now c.args.from.body.now c.in_ok-count.count 0 c.args.from.at (c.args.from.at + m) out out) (sym c.octets.ensures)
+    (count_first c.args.size k c.args.path.now c.args.from.body.now c.in_ok-count.count c.args.from.at out c.in_ok-count.ensures.count)
 
 pub show_each-returns-in_err-here-clause-err : goal.show_each-returns-in_err-here-clause-err
 show_each-returns-in_err-here-clause-err t c =
     let k = held_kind c.args.inner.now in
     let e = c.in_err-here.field-0.0 in
-    err_is (kind_read (counted c.args.size k) c.args.body.now c.args.at) c.args.at c.from_residual-in_err-here.result e c.from_residual-in_err-here.ensures.1
-    (count_failed c.args.size k c.args.path.now c.args.body.now c.in_ok-count.count c.loop-number.number c.args.at c.loop-number.here c.args.lister.now.out c.loop-number.lister.out e c.loop-number.invariant c.loop-number-test.true c.in_err-here.ensures.err)
+    err_is (kind_read (counted c.args.size k) c.args.from.body.now c.args.from.at) c.args.from.at c.from_residual-in_err-here.result e c.from_residual-in_err-here.ensures.1
+    (count_failed c.args.size k c.args.path.now c.args.from.body.now c.in_ok-count.count c.loop-number.number c.args.from.at c.loop-number.here c.args.lister.now.out c.loop-number.lister.out e c.loop-number.invariant c.loop-number-test.true c.in_err-here.ensures.err)
 
 pub show_each-loop-number-preserved : goal.show_each-loop-number-preserved
 show_each-loop-number-preserved t c =
-    count_next c.args.size (held_kind c.args.inner.now) c.args.path.now c.args.body.now c.in_ok-count.count c.loop-number.number c.args.at c.loop-number.here c.in_ok-here.here c.set_numbered.new.inner c.args.lister.now.out c.loop-number.lister.out c.show_value.new.lister.out
+    count_next c.args.size (held_kind c.args.inner.now) c.args.path.now c.args.from.body.now c.in_ok-count.count c.loop-number.number c.args.from.at c.loop-number.here c.in_ok-here.here c.set_numbered.new.inner c.args.lister.now.out c.loop-number.lister.out c.show_value.new.lister.out
     c.loop-number.invariant c.loop-number-test.true c.in_ok-set_numbered.ensures c.in_ok-here.ensures.ok
 
 pub show_each-returns-clause-ok : goal.show_each-returns-clause-ok
 show_each-returns-clause-ok t c =
-    count_last c.args.size (held_kind c.args.inner.now) c.args.path.now c.args.body.now c.in_ok-count.count c.loop-number.number c.args.at c.loop-number.here c.args.lister.now.out c.loop-number.lister.out c.loop-number.invariant c.loop-number-test.false
+    count_last c.args.size (held_kind c.args.inner.now) c.args.path.now c.args.from.body.now c.in_ok-count.count c.loop-number.number c.args.from.at c.loop-number.here c.args.lister.now.out c.loop-number.lister.out c.loop-number.invariant c.loop-number-test.false
 
 -- ---- subitems
 
@@ -83,14 +83,14 @@ pub show_subitems-returns-in_err-here-clause-err : goal.show_subitems-returns-in
 show_subitems-returns-in_err-here-clause-err t c =
     let slots : List SlotTree = map held_slot c.args.slots.now in
     let fault = c.in_err-here.field-0.0 in
-    let f = subst (λ xs. FailsToMarkOf (map held_slot xs) c.args.body.now c.args.at fault) c.as_slice-all.ensures.members c.in_err-here.ensures.err in
-    err_by_fault (kind_read (compound (slots_of slots)) c.args.body.now c.args.at) c.args.at c.from_residual.result fault c.from_residual.ensures.1
-    (field_failed slots f.mask c.args.body.now c.args.at fault f.is f.fails)
+    let f = subst (λ xs. FailsToMarkOf (map held_slot xs) c.args.from.body.now c.args.from.at fault) c.as_slice-all.ensures.members c.in_err-here.ensures.err in
+    err_by_fault (kind_read (compound (slots_of slots)) c.args.from.body.now c.args.from.at) c.args.from.at c.from_residual.result fault c.from_residual.ensures.1
+    (field_failed slots f.mask c.args.from.body.now c.args.from.at fault f.is f.fails)
 
 pub show_subitems-loop-number-init : goal.show_subitems-loop-number-init
 show_subitems-loop-number-init t c =
-    let m = subst (λ xs. MarksOf (map held_slot xs) c.args.body.now c.args.at c.in_ok-here.here c.read_field.new.into) c.as_slice-all.ensures.members c.in_ok-here.ensures.ok in
-    compound_first (map held_slot c.args.slots.now) m.mask c.args.path.now c.args.body.now c.read_field.new.into c.args.at c.in_ok-here.here c.args.lister.now.out c.requires.bounds m.is m.marks
+    let m = subst (λ xs. MarksOf (map held_slot xs) c.args.from.body.now c.args.from.at c.in_ok-here.here c.read_field.new.into) c.as_slice-all.ensures.members c.in_ok-here.ensures.ok in
+    compound_first (map held_slot c.args.slots.now) m.mask c.args.path.now c.args.from.body.now c.read_field.new.into c.args.from.at c.in_ok-here.here c.args.lister.now.out c.requires.bounds m.is m.marks
 
 pub show_subitems-bounds-all-number : goal.show_subitems-bounds-all-number
 show_subitems-bounds-all-number t c =
@@ -115,7 +115,7 @@ show_subitems-show_slot-requires t c =
       omega (arith, small, same_size, c.decreases),
       (
         slot_bounds (map held_slot all) (number - 1) (held_slot s) c.requires.bounds.2 (omega (arith, within, length-map all held_slot)) (map_at held_slot all (number - 1) s is),
-        (subst SlotListable (at_number all number s c.in-Some.ensures.within.0 within is) (slot_listable (held_slots all) number c.requires.listable), (c.requires.body, h.within)),
+        subst SlotListable (at_number all number s c.in-Some.ensures.within.0 within is) (slot_listable (held_slots all) number c.requires.listable),
       ),
     )
 
@@ -123,7 +123,7 @@ pub show_subitems-returns-in_err-here-2-clause-err : goal.show_subitems-returns-
 show_subitems-returns-in_err-here-2-clause-err t c =
     let all = c.args.slots.now in
     let slots : List SlotTree = map held_slot all in
-    let body = c.args.body.now in
+    let body = c.args.from.body.now in
     let path = c.args.path.now in
     let h = c.loop-number.invariant in
     let number : ℕ = c.in-Some.number in
@@ -132,9 +132,9 @@ show_subitems-returns-in_err-here-2-clause-err t c =
     let within : number - 1 < length all = omega (arith, n.within, length-map all held_slot) in
     let is : s ≡ get_or all (number - 1) s = subst (λ xs. s ≡ get_or xs (number - 1) s) c.as_slice-all.ensures.members c.index-all-number.is in
     let e = c.in_err-here-2.field-0.0 in
-    err_is (kind_read (compound (slots_of slots)) body c.args.at) c.args.at c.from_residual-in_err-here-2.result e c.from_residual-in_err-here-2.ensures.1
+    err_is (kind_read (compound (slots_of slots)) body c.args.from.at) c.args.from.at c.from_residual-in_err-here-2.result e c.from_residual-in_err-here-2.ensures.1
     (record {
-      met = marks_failed (compound_done slots path body c.args.at c.args.lister.now.out) (FailsAt (kind_read (compound (slots_of slots)) body c.args.at) c.args.at) slots path c.loop-number.left c.take_first.new.self body number c.loop-number.here c.loop-number.lister.out c.loop-number.count h n e
+      met = marks_failed (compound_done slots path body c.args.from.at c.args.lister.now.out) (FailsAt (kind_read (compound (slots_of slots)) body c.args.from.at) c.args.from.at) slots path c.loop-number.left c.take_first.new.self body number c.loop-number.here c.loop-number.lister.out c.loop-number.count h n e
           (subst (λ slot. HasSlotFailed slot body c.loop-number.here e) (sym (at_number all number s c.in-Some.ensures.within.0 within is)) c.in_err-here-2.ensures.err);
     })
 
@@ -142,7 +142,7 @@ pub show_subitems-loop-number-preserved : goal.show_subitems-loop-number-preserv
 show_subitems-loop-number-preserved t c =
     let all = c.args.slots.now in
     let slots : List SlotTree = map held_slot all in
-    let body = c.args.body.now in
+    let body = c.args.from.body.now in
     let path = c.args.path.now in
     let h = c.loop-number.invariant in
     let number : ℕ = c.in-Some.number in
@@ -150,13 +150,13 @@ show_subitems-loop-number-preserved t c =
     let s = c.index-all-number.result in
     let within : number - 1 < length all = omega (arith, n.within, length-map all held_slot) in
     let is : s ≡ get_or all (number - 1) s = subst (λ xs. s ≡ get_or xs (number - 1) s) c.as_slice-all.ensures.members c.index-all-number.is in
-    marks_next (compound_done slots path body c.args.at c.args.lister.now.out) (FailsAt (kind_read (compound (slots_of slots)) body c.args.at) c.args.at) slots path c.loop-number.left c.take_first.new.self body number c.loop-number.here c.loop-number.lister.out c.loop-number.count h n
+    marks_next (compound_done slots path body c.args.from.at c.args.lister.now.out) (FailsAt (kind_read (compound (slots_of slots)) body c.args.from.at) c.args.from.at) slots path c.loop-number.left c.take_first.new.self body number c.loop-number.here c.loop-number.lister.out c.loop-number.count h n
     c.in_ok-here-2.here c.show_slot.new.lister.out c.in-Some.ensures.some
     (subst (λ slot. IsSlotShown slot path body c.loop-number.here c.in_ok-here-2.here c.loop-number.lister.out c.show_slot.new.lister.out) (sym (at_number all number s c.in-Some.ensures.within.0 within is)) c.in_ok-here-2.ensures.ok)
 
 pub show_subitems-returns-clause-ok : goal.show_subitems-returns-clause-ok
 show_subitems-returns-clause-ok t c =
     let slots : List SlotTree = map held_slot c.args.slots.now in
-    let body = c.args.body.now in
-    marks_last (compound_done slots c.args.path.now body c.args.at c.args.lister.now.out) (FailsAt (kind_read (compound (slots_of slots)) body c.args.at) c.args.at) slots c.args.path.now c.loop-number.left body c.loop-number.here c.loop-number.lister.out c.loop-number.count c.loop-number.invariant
+    let body = c.args.from.body.now in
+    marks_last (compound_done slots c.args.path.now body c.args.from.at c.args.lister.now.out) (FailsAt (kind_read (compound (slots_of slots)) body c.args.from.at) c.args.from.at) slots c.args.path.now c.loop-number.left body c.loop-number.here c.loop-number.lister.out c.loop-number.count c.loop-number.invariant
     c.in_default.ensures.none

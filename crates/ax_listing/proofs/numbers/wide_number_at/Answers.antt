@@ -3,4 +3,4 @@ use Rattle.ax_listing.proofs.Members.{number_is}
 use Rattle.ax_listing.proofs.numbers.wide_number_at.Goals as goal
 
 pub returns-clause-value : goal.returns-clause-value
-returns-clause-value c = number_is (bits c.args.body.now) c.args.at c.args.width c.bits_at.result c.bits_at.ensures.below c.bits_at.ensures.number
+returns-clause-value c = number_is (bits c.args.from.body.now) c.args.from.at c.args.width c.bits_at.result c.bits_at.ensures.below c.bits_at.ensures.number

@@ -1,9 +1,10 @@
 -- What is printed of a run of bits: octets that its kind gives, and between them numbers of so many bits.
 use Rattle.std.specs.Prelude.{◌≡◌, ℕ, ◌+◌, List, [], ◌∷◌, ◌++◌, Option, Some, None, take, drop, decimal}
-use Rattle.ax_bits.specs.Bits.{number_of}
+use Rattle.ax_bits.specs.Bits.{bits, number_of}
 use Rattle.ax_format.specs.InBounds.{IsWidth}
 use Rattle.ax_format.specs.Tree.{FixedTree, element, group, MemberTree, MembersTree, no_members, member_and, named, spare}
 use Rattle.ax_text_form.specs.ValueText.{opening, closing, spare_word, part_word}
+use Rattle.ax_text_lines.specs.declared.bit_run.BitRun.{BitRun}
 use Rattle.ax_text_lines.specs.declared.templates.TemplateStep.{TemplateStep}
 use Rattle.ax_text_lines.specs.declared.templates.TemplateSteps.{TemplateSteps}
 
@@ -51,6 +52,10 @@ part_template p r = text_then part_word (text_then opening (members_template p (
 abbrev pub printed : Template → List ℕ → List ℕ
 printed (ends xs) b = xs
 printed (and_number xs w r) b = xs ++ (decimal (number_of (take w b)) ++ printed r (drop w b))
+
+-- those of a run of bits, and what comes after them
+abbrev pub bits_from : BitRun → List ℕ
+bits_from run = drop run.at (bits run.body.now)
 
 -- the bits of the numbers together
 abbrev pub template_width : Template → ℕ

@@ -1,6 +1,7 @@
 //! Data blocks as text, printed while their octets are read: no value is made of them. `text` as the work of a block command.
 #![tactic(auto)]
 
+mod bit_run;
 mod blocks;
 mod build;
 mod drafting;

@@ -8,6 +8,7 @@ ghost use Rattle.ax_text_form.specs.ValueText.{opening, closing, one_onto, hex_t
 ghost use Rattle.ax_text_lines.specs.Templates.{TemplateInBounds, printed, template_width, whole_template};
 ghost use Rattle.ax_tokens.specs.Octets.{line_feed};
 
+use crate::bit_run::BitRun;
 use crate::room::{make_room, put_name, put_number, put_octets};
 use crate::step_texts::{put_template, template_room};
 use crate::templates::TemplateSteps;
@@ -145,7 +146,8 @@ impl TokenLine {
         ensures { OnOk result (self.new ≡ self.old ++ printed (whole_template steps.now) (drop at (bits body.now))) }
     {
         make_room(&mut self.room, self.used, template_room(steps))?;
-        self.used = put_template(&mut self.room, self.used, steps, body, at, width);
+        let run = BitRun { body, at, width };
+        self.used = put_template(&mut self.room, self.used, steps, run);
         Ok(())
     }
 

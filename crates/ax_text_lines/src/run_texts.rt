@@ -1,8 +1,9 @@
 //! The texts of steps whose numbers stand in a few octets, taken out of one word.
 ghost use Rattle.std.specs.Prelude.{◌≡◌, ◌+◌, ◌-◌, ◌*◌, ◌^◌, ◌<◌, ◌≤◌, ◌++◌, length, drop, take, decimal};
-ghost use Rattle.ax_bits.specs.Bits.{bits, number_of, word};
-ghost use Rattle.ax_text_lines.specs.Templates.{NumberInBounds, TemplateInBounds, number_text, number_width, printed, step_text, template_of, template_width};
+ghost use Rattle.ax_bits.specs.Bits.{number_of, word};
+ghost use Rattle.ax_text_lines.specs.Templates.{NumberInBounds, TemplateInBounds, bits_from, number_text, number_width, printed, step_text, template_of, template_width};
 
+use crate::bit_run::BitRun;
 use crate::room::{put_decimal, put_one, put_some};
 use crate::step_texts::ONE_DIGIT;
 use crate::templates::TemplateStep;
@@ -15,16 +16,15 @@ pub(crate) const ONE_WORD: u32 = 56;
 /// for, so that no shift depends on the width.
 #[inline(always)]
 #[tactic(auto, using(crate::proofs::RunsPrinted::firsts))]
-fn first_in_word(body: &[u8], at: u32, width: u32) -> u64
-    requires width { (1 ≤ width) × (width ≤ 56) }
-    requires within { at + width ≤ 8 * length body.now }
-    ensures { take width (word 64 result) ≡ take width (drop at (bits body.now)) }
+fn first_in_word(run: BitRun<'_>) -> u64
+    requires width { (1 ≤ run.width) × (run.width ≤ 56) }
+    ensures { take run.entry.width (word 64 result) ≡ take run.entry.width (bits_from run.entry) }
 {
-    let first = (at / 8) as usize;
-    if first + 8 <= body.len() {
-        return short_bits_at(body, at, ONE_WORD) << (64 - ONE_WORD);
+    let first = (run.at / 8) as usize;
+    if first + 8 <= run.body.len() {
+        return short_bits_at(run.body, run.at, ONE_WORD) << (64 - ONE_WORD);
     }
-    short_bits_at(body, at, width) << (64 - width)
+    short_bits_at(run.body, run.at, run.width) << (64 - run.width)
 }
 
 /// Puts the number in the first `width` bits of a word. The result is the place after it.
@@ -100,24 +100,20 @@ fn put_steps_of_word(room: &mut [u8], place: usize, steps: &[TemplateStep], run:
     end
 }
 
-/// Puts steps, whose numbers stand in the `width` bits from bit `at` of the body on: these are taken at once. The result is the
-/// place after the steps.
+/// Puts steps, whose numbers stand in the bits of the run: these are taken at once. The result is the place after the steps.
 #[inline(always)]
 pub(crate) fn put_run(
     room: &mut [u8],
     place: usize,
     steps: &[TemplateStep],
-    body: &[u8],
-    at: u32,
-    width: u32,
+    run: BitRun<'_>,
 ) -> usize
     requires room { place + 72 * length steps.now ≤ length room.old }
     requires bounds { TemplateInBounds (template_of steps.now) }
-    requires width { (1 ≤ width) × (width ≤ 56) × (template_width (template_of steps.now) ≡ width) }
-    requires within { at + width ≤ 8 * length body.now }
-    ensures front { take result room.new ≡ take place room.old ++ printed (template_of steps.now) (drop at (bits body.now)) }
+    requires width { (1 ≤ run.width) × (run.width ≤ 56) × (template_width (template_of steps.now) ≡ run.width) }
+    ensures front { take result room.new ≡ take place room.old ++ printed (template_of steps.now) (bits_from run.entry) }
     ensures few { result ≤ place + 72 * length steps.now }
     ensures whole { length room.new ≡ length room.old }
 {
-    put_steps_of_word(room, place, steps, first_in_word(body, at, width))
+    put_steps_of_word(room, place, steps, first_in_word(run))
 }

@@ -3,8 +3,9 @@ ghost use Rattle.std.specs.Prelude.{◌≡◌, ◌+◌, ◌*◌, ◌≤◌, ◌+
 ghost use Rattle.ax_bits.specs.Bits.{bits, number_of};
 ghost use Rattle.ax_format.specs.InBounds.{IsWidth};
 ghost use Rattle.ax_format.specs.Sizes.{longest_body};
-ghost use Rattle.ax_text_lines.specs.Templates.{NumberInBounds, TemplateInBounds, number_text, number_width, printed, step_text, template_of, template_width, whole_template};
+ghost use Rattle.ax_text_lines.specs.Templates.{NumberInBounds, TemplateInBounds, bits_from, number_text, number_width, printed, step_text, template_of, template_width, whole_template};
 
+use crate::bit_run::BitRun;
 use crate::literal::LITERAL_ROOM;
 use crate::room::{put_decimal, put_longest, put_one, put_some};
 use crate::run_texts::{ONE_WORD, put_run};
@@ -103,30 +104,21 @@ fn put_steps(room: &mut [u8], place: usize, steps: &[TemplateStep], body: &[u8],
     end
 }
 
-/// Puts steps, whose numbers stand in the `width` bits from bit `at` of the body on: where these are few, they are taken at once.
-/// The result is the place after the steps.
+/// Puts steps, whose numbers stand in the bits of the run: where these are few, they are taken at once. The result is the place
+/// after the steps.
 #[inline(always)]
-fn put_all_steps(
-    room: &mut [u8],
-    place: usize,
-    steps: &[TemplateStep],
-    body: &[u8],
-    at: u32,
-    width: u32,
-) -> usize
+fn put_all_steps(room: &mut [u8], place: usize, steps: &[TemplateStep], run: BitRun<'_>) -> usize
     requires room { place + 72 * length steps.now ≤ length room.old }
     requires bounds { TemplateInBounds (template_of steps.now) }
-    requires width { template_width (template_of steps.now) ≡ width }
-    requires within { at + width ≤ 8 * length body.now }
-    requires body { length body.now ≤ longest_body }
-    ensures front { take result room.new ≡ take place room.old ++ printed (template_of steps.now) (drop at (bits body.now)) }
+    requires width { template_width (template_of steps.now) ≡ run.width }
+    ensures front { take result room.new ≡ take place room.old ++ printed (template_of steps.now) (bits_from run.entry) }
     ensures few { result ≤ place + 72 * length steps.now }
     ensures whole { length room.new ≡ length room.old }
 {
-    if width == 0 || width > ONE_WORD {
-        return put_steps(room, place, steps, body, at);
+    if run.width == 0 || run.width > ONE_WORD {
+        return put_steps(room, place, steps, run.body, run.at);
     }
-    put_run(room, place, steps, body, at, width)
+    put_run(room, place, steps, run)
 }
 
 /// The octets that are printed by a template at most.
@@ -137,25 +129,21 @@ pub(crate) fn template_room(steps: &TemplateSteps) -> usize
     STEP_ROOM * steps.steps.count() as usize + LITERAL_ROOM
 }
 
-/// Puts what is printed by a template of the `width` bits from bit `at` of the body on. The result is the place after it.
+/// Puts what is printed by a template of the bits of the run. The result is the place after it.
 #[inline(always)]
 #[tactic(auto, using(crate::proofs::StepsPrinted::wholes))]
 pub(crate) fn put_template(
     room: &mut [u8],
     place: usize,
     steps: &TemplateSteps,
-    body: &[u8],
-    at: u32,
-    width: u32,
+    run: BitRun<'_>,
 ) -> usize
     requires room { place + (72 * length steps.now.steps + 32) ≤ length room.old }
     requires bounds { TemplateInBounds (whole_template steps.now) }
-    requires width { template_width (whole_template steps.now) ≡ width }
-    requires within { at + width ≤ 8 * length body.now }
-    requires body { length body.now ≤ longest_body }
-    ensures front { take result room.new ≡ take place room.old ++ printed (whole_template steps.now) (drop at (bits body.now)) }
+    requires width { template_width (whole_template steps.now) ≡ run.width }
+    ensures front { take result room.new ≡ take place room.old ++ printed (whole_template steps.now) (bits_from run.entry) }
     ensures within { result ≤ length room.new }
 {
-    let end = put_all_steps(room, place, steps.steps.as_slice(), body, at, width);
+    let end = put_all_steps(room, place, steps.steps.as_slice(), run);
     put_some::<32>(room, end, &steps.tail.octets, steps.tail.count)
 }

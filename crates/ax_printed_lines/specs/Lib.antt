@@ -1,3 +1,4 @@
+pub mod Builds
 pub mod Digits
 pub mod Laid
 pub mod Printed

@@ -17,7 +17,7 @@ use Rattle.ax_format.specs.Specification.{SpecTree, spec_of}
 use Rattle.ax_format.specs.Tree.{MemberTree, named, spare, SlotTree, spare_slot, subitem, SlotsTree, slot_count, ValueTree, EntriesTree}
 use Rattle.ax_text_form.specs.Slots.{SlotShape, slot_onto}
 use Rattle.ax_text_form.specs.Tokens.{kind_of}
-use Rattle.ax_text_form.specs.ValueText.{Texts}
+use Rattle.ax_text_form.specs.ValueText.{Texts, hex_text}
 use Rattle.ax_tokens.specs.Depth.{level_after}
 use Rattle.ax_tokens.specs.Lexing.{IsTokenText, MayFollow, AreTokensOf}
 use Rattle.ax_tokens.specs.Octets.{is_separator}
@@ -69,6 +69,10 @@ Keeps level (text ∷ texts) = IsTokenText (kind_of text) text × (level_after (
 pub record Goes (old new : Place) (texts : Texts) : Type 0 where
   pub left : AreInFront texts old.left new.left
   pub keeps : (rest : Texts) → Keeps new.level rest → Keeps old.level (texts ++ rest)
+
+-- the text in quotes stood there, and is read, of the octets whose digits these are
+abbrev pub GoesQuoted : List ℕ → Place → Place → Type 0
+GoesQuoted digits old new = (octets : List ℕ) → AreOctets octets → digits ≡ encode_lower octets → Goes old new (hex_text octets ∷ [])
 
 -- ---- what is built
 

@@ -1,8 +1,13 @@
 -- Numbers that are read by the steps of a template.
-use Rattle.std.specs.Prelude.{◌≡◌, ℕ, ◌+◌, ◌*◌, ◌^◌, ◌<◌, ◌≤◌, List, ◌∷◌, ◌++◌}
+use Rattle.std.specs.Prelude.{◌≡◌, ℕ, ◌+◌, ◌-◌, ◌*◌, ◌^◌, ◌<◌, ◌≤◌, List, ◌∷◌, ◌++◌, take, drop}
 use Rattle.ax_bits.specs.Bits.{word}
 use Rattle.ax_printed_lines.specs.Printed.{Place}
+use Rattle.ax_text_lines.specs.declared.literal.TemplateLiteral.{TemplateLiteral}
 use Rattle.ax_text_lines.specs.Templates.{Template, printed, template_width}
+
+-- a literal's octets, from octet i of them on
+abbrev pub literal_from : TemplateLiteral → ℕ → List ℕ
+literal_from literal i = take (literal.count - i) (drop i literal.octets)
 
 -- what a template prints of a number's bits stands in front, and then what is left
 pub record IsRead (t : Template) (n : ℕ) (octets left : List ℕ) : Type 0 where

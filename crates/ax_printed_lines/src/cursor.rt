@@ -1,10 +1,8 @@
 //! The place in a line.
-ghost use Rattle.std.specs.Prelude.{◌≡◌, ◌+◌, ◌<◌, ◌≤◌, [], ◌∷◌, ◌++◌, ℕ, List, false, length, decimal, IsTrue, IfSome, IfNone};
+ghost use Rattle.std.specs.Prelude.{◌≡◌, ◌+◌, ◌<◌, ◌≤◌, [], ◌∷◌, ◌++◌, false, length, decimal, IsTrue, IfSome, IfNone};
 ghost use Rattle.ax_format.specs.Paths.{three_digits};
-ghost use Rattle.ax_text_form.specs.ValueText.{opening, closing, hex_text};
-ghost use Rattle.ax_bits.specs.Bits.{AreOctets};
-ghost use Rattle.hex.specs.Hex.{encode_lower};
-ghost use Rattle.ax_printed_lines.specs.Printed.{Place, AfterGap, IsAfterOctet, IsOneWord, Goes};
+ghost use Rattle.ax_text_form.specs.ValueText.{opening, closing};
+ghost use Rattle.ax_printed_lines.specs.Printed.{Place, AfterGap, IsAfterOctet, IsOneWord, Goes, GoesQuoted};
 ghost use Rattle.ax_printed_lines.specs.Runs.{RunGoes};
 ghost use Rattle.ax_text_lines.specs.Templates.{template_width, whole_template};
 
@@ -256,7 +254,7 @@ impl<'t> Cursor<'t> {
     /// What stands between the quotes of the text that comes. It is read if it is in quotes.
     #[tactic(auto, using(crate::proofs::Going::quotes))]
     pub fn quoted(&mut self) -> Option<&'t [u8]>
-        ensures { IfSome result (λ digits. (octets : List ℕ) → AreOctets octets → digits.now ≡ encode_lower octets → Goes self.old self.new (hex_text octets ∷ [])) }
+        ensures { IfSome result (λ digits. GoesQuoted digits.now self.old self.new) }
     {
         let (text, later) = split_word(self.rest, quoted_count(self.rest, MOST_QUOTED))?;
         let digits = unquoted(text)?;

@@ -1,14 +1,11 @@
 //! Values of fixed kinds: elements, groups and their members; and lists of them, of extended and closed items and of items
 //! that repeat by FX.
-ghost use Rattle.std.specs.Prelude.{◌≡◌, ◌<◌, ◌∷◌, [], ℕ, length, map, IfSome};
-ghost use Rattle.ax_format.specs.Canonical.{fixed_canon, members_canon, parts_canon, run_canon};
+ghost use Rattle.std.specs.Prelude.{map, IfSome};
 ghost use Rattle.ax_format.specs.InBounds.{FixedInBounds, MembersInBounds, PartsInBounds};
 ghost use Rattle.ax_format.specs.Plain.{fixed_tree, member_tree, members_tree, part_tree};
-ghost use Rattle.ax_format.specs.Shape.{FixedShape, MembersShape, PartsShape, EachShape};
-ghost use Rattle.ax_format.specs.Tree.{fixed, member_and, no_members, subitem, value_count};
-ghost use Rattle.ax_text_form.specs.Slots.{MemberShape};
-ghost use Rattle.ax_text_form.specs.ValueText.{closing, fixed_onto, member_onto, members_onto, part_onto, parts_onto, each_onto};
-ghost use Rattle.ax_printed_lines.specs.Printed.{IsBuilt, BuildsSlot, member_canon};
+ghost use Rattle.ax_format.specs.Tree.{member_and, no_members};
+ghost use Rattle.ax_printed_lines.specs.Builds.{BuildsFixed, BuildsMember, BuildsMembers, BuildsPart, BuildsParts, BuildsRun, named_slot};
+ghost use Rattle.ax_printed_lines.specs.Printed.{BuildsSlot};
 ghost use Rattle.ax_text_lines.specs.HeldText.{text_part};
 
 use crate::cursor::Cursor;
@@ -25,7 +22,7 @@ const MOST_BITS: u64 = 56;
 #[inline(always)]
 pub fn fixed_built(cursor: &mut Cursor<'_>, fixed: &Fixed, out: &mut LaidBits<'_>) -> Option<()>
     requires { FixedInBounds (fixed_tree fixed.now) }
-    ensures { IfSome result (λ done. IsBuilt (FixedShape (fixed_tree fixed.now)) (λ v. fixed_onto (fixed_tree fixed.now) v []) (fixed_canon (fixed_tree fixed.now)) cursor.old cursor.new out.old out.new) }
+    ensures { IfSome result (λ done. BuildsFixed (fixed_tree fixed.now) cursor.old cursor.new out.old out.new) }
 {
     match fixed {
         Fixed::Element { width, .. } => number_built(cursor, *width, out),
@@ -43,7 +40,7 @@ pub fn fixed_built(cursor: &mut Cursor<'_>, fixed: &Fixed, out: &mut LaidBits<'_
 #[inline(always)]
 fn member_built(cursor: &mut Cursor<'_>, member: &Member, out: &mut LaidBits<'_>) -> Option<()>
     requires { MembersInBounds (member_and (member_tree member.now) no_members) }
-    ensures { IfSome result (λ done. IsBuilt (MemberShape (member_tree member.now)) (λ v. member_onto (member_tree member.now) v []) (member_canon (member_tree member.now)) cursor.old cursor.new out.old out.new) }
+    ensures { IfSome result (λ done. BuildsMember (member_tree member.now) cursor.old cursor.new out.old out.new) }
 {
     match member {
         Member::Named { name, fixed } => {
@@ -74,7 +71,7 @@ pub fn members_built(
     out: &mut LaidBits<'_>,
 ) -> Option<()>
     requires { MembersInBounds (members_tree members.now) }
-    ensures { IfSome result (λ done. IsBuilt (MembersShape (members_tree members.now)) (λ vs. members_onto (members_tree members.now) vs (closing ∷ [])) (members_canon (members_tree members.now)) cursor.old cursor.new out.old out.new) }
+    ensures { IfSome result (λ done. BuildsMembers (members_tree members.now) cursor.old cursor.new out.old out.new) }
 {
     for member in members.as_slice() {
         member_built(cursor, member, out)?;
@@ -92,7 +89,7 @@ pub fn held_built(
     out: &mut LaidBits<'_>,
 ) -> Option<()>
     requires { FixedInBounds (fixed_tree held.now.fixed.now) }
-    ensures { IfSome result (λ done. IsBuilt (FixedShape (fixed_tree held.now.fixed.now)) (λ v. fixed_onto (fixed_tree held.now.fixed.now) v []) (fixed_canon (fixed_tree held.now.fixed.now)) cursor.old cursor.new out.old out.new) }
+    ensures { IfSome result (λ done. BuildsFixed (fixed_tree held.now.fixed.now) cursor.old cursor.new out.old out.new) }
 {
     if held.shallow
         && held.width <= MOST_BITS
@@ -112,7 +109,7 @@ pub fn named_built(
     out: &mut LaidBits<'_>,
 ) -> Option<bool>
     requires { FixedInBounds (fixed_tree held.now.fixed.now) }
-    ensures { IfSome result (λ came. BuildsSlot (subitem held.now.name (fixed (fixed_tree held.now.fixed.now))) came cursor.old cursor.new out.old out.new) }
+    ensures { IfSome result (λ came. BuildsSlot (named_slot held.now) came cursor.old cursor.new out.old out.new) }
 {
     if held.shallow
         && held.width <= MOST_BITS
@@ -133,7 +130,7 @@ fn named_member_built(
     out: &mut LaidBits<'_>,
 ) -> Option<bool>
     requires { FixedInBounds (fixed_tree held.now.fixed.now) }
-    ensures { IfSome result (λ came. BuildsSlot (subitem held.now.name (fixed (fixed_tree held.now.fixed.now))) came cursor.old cursor.new out.old out.new) }
+    ensures { IfSome result (λ came. BuildsSlot (named_slot held.now) came cursor.old cursor.new out.old out.new) }
 {
     if !cursor.takes_name(&held.name) {
         return Some(false);
@@ -146,7 +143,7 @@ fn named_member_built(
 #[inline(always)]
 fn part_built(cursor: &mut Cursor<'_>, held: &TextPart<'_>, out: &mut LaidBits<'_>) -> Option<()>
     requires { MembersInBounds (text_part held.now) }
-    ensures { IfSome result (λ done. IsBuilt (MembersShape (text_part held.now)) (λ vs. part_onto (text_part held.now) vs []) (members_canon (text_part held.now)) cursor.old cursor.new out.old out.new) }
+    ensures { IfSome result (λ done. BuildsPart (text_part held.now) cursor.old cursor.new out.old out.new) }
 {
     if held.shallow
         && held.width <= MOST_BITS
@@ -161,7 +158,7 @@ fn part_built(cursor: &mut Cursor<'_>, held: &TextPart<'_>, out: &mut LaidBits<'
 /// The same: `part` and its members in braces.
 fn braced_part_built(cursor: &mut Cursor<'_>, part: &Part, out: &mut LaidBits<'_>) -> Option<()>
     requires { MembersInBounds (part_tree part.now) }
-    ensures { IfSome result (λ done. IsBuilt (MembersShape (part_tree part.now)) (λ vs. part_onto (part_tree part.now) vs []) (members_canon (part_tree part.now)) cursor.old cursor.new out.old out.new) }
+    ensures { IfSome result (λ done. BuildsPart (part_tree part.now) cursor.old cursor.new out.old out.new) }
 {
     if !cursor.takes(b"part") || !cursor.opens() {
         return None;
@@ -177,7 +174,7 @@ pub fn parts_built(
     out: &mut LaidBits<'_>,
 ) -> Option<()>
     requires { PartsInBounds last (map text_part parts.now) }
-    ensures { IfSome result (λ done. IsBuilt (PartsShape (map text_part parts.now)) (λ ls. parts_onto (map text_part parts.now) ls (closing ∷ [])) (parts_canon last (map text_part parts.now)) cursor.old cursor.new out.old out.new) }
+    ensures { IfSome result (λ done. BuildsParts last (map text_part parts.now) cursor.old cursor.new out.old out.new) }
 {
     let list = parts.as_slice();
     let mut index = 0;
@@ -202,7 +199,7 @@ pub fn run_built(
     out: &mut LaidBits<'_>,
 ) -> Option<()>
     requires { FixedInBounds (fixed_tree held.now.fixed.now) }
-    ensures { IfSome result (λ done. IsBuilt (λ vs. (0 < value_count vs) × EachShape (FixedShape (fixed_tree held.now.fixed.now)) vs) (λ vs. each_onto (fixed_onto (fixed_tree held.now.fixed.now)) vs (closing ∷ [])) (run_canon (fixed_tree held.now.fixed.now)) cursor.old cursor.new out.old out.new) }
+    ensures { IfSome result (λ done. BuildsRun (fixed_tree held.now.fixed.now) cursor.old cursor.new out.old out.new) }
 {
     for _ in 0..MOST {
         held_built(cursor, held, out)?;

@@ -1,16 +1,11 @@
 //! Values of kinds.
-ghost use Rattle.std.specs.Prelude.{◌≡◌, ◌^◌, ◌<◌, ◌≤◌, ◌∷◌, [], length, MatchBool, IfSome};
-ghost use Rattle.ax_fspec.specs.Fields.{least_field};
-ghost use Rattle.ax_format.specs.Canonical.{canon, each_canon, marks_of, entries_canon};
+ghost use Rattle.std.specs.Prelude.{◌^◌, ◌<◌, ◌≤◌, length, IfSome};
 ghost use Rattle.ax_format.specs.InBounds.{InBounds, SlotsInBounds};
-ghost use Rattle.ax_format.specs.Presence.{octets_needed, least_presence};
-ghost use Rattle.ax_format.specs.Shape.{Shape, EachShape, EntriesShape};
-ghost use Rattle.ax_format.specs.Tree.{compound, counted, slot_and, no_slots, slot_count, value_count, occurrences, marked};
+ghost use Rattle.ax_format.specs.Tree.{slot_and, no_slots};
 ghost use Rattle.ax_format.specs.Widths.{counter_width};
-ghost use Rattle.ax_text_form.specs.Slots.{SlotShape, slot_onto};
-ghost use Rattle.ax_text_form.specs.ValueText.{closing, kind_onto, each_onto, in_braces, entries_onto};
 ghost use Rattle.ax_text_lines.specs.HeldText.{text_kind, text_slot, text_slots};
-ghost use Rattle.ax_printed_lines.specs.Printed.{IsBuilt, AreSlots, BuildsSlot, HasMarks, slot_canon};
+ghost use Rattle.ax_printed_lines.specs.Builds.{BuildsKind, BuildsCounted, BuildsEach, BuildsEntries, BuildsCompound};
+ghost use Rattle.ax_printed_lines.specs.Printed.{AreSlots, BuildsSlot};
 
 use crate::cursor::Cursor;
 use crate::explicit::explicit_built;
@@ -30,7 +25,7 @@ pub fn kind_built(
     out: &mut LaidBits<'_>,
 ) -> Option<()>
     requires { InBounds (text_kind kind.now) }
-    ensures { IfSome result (λ done. IsBuilt (Shape (text_kind kind.now)) (λ v. kind_onto (text_kind kind.now) v []) (canon (text_kind kind.now)) cursor.old cursor.new out.old out.new) }
+    ensures { IfSome result (λ done. BuildsKind (text_kind kind.now) cursor.old cursor.new out.old out.new) }
 {
     match kind {
         TextKind::Fixed(fixed) => held_built(cursor, fixed, out),
@@ -75,7 +70,7 @@ fn counted_built(
     out: &mut LaidBits<'_>,
 ) -> Option<()>
     requires { InBounds (text_kind kind.now) }
-    ensures { IfSome result (λ done. IsBuilt (λ vs. (value_count vs < 2 ^ counter_width size) × EachShape (Shape (text_kind kind.now)) vs) (λ vs. each_onto (kind_onto (text_kind kind.now)) vs (closing ∷ [])) (λ vs. canon (counted size (text_kind kind.now)) (occurrences vs)) cursor.old cursor.new out.old out.new) }
+    ensures { IfSome result (λ done. BuildsCounted size (text_kind kind.now) cursor.old cursor.new out.old out.new) }
 {
     let at = out.leave(size.octets() as usize)?;
     let count = each_built(cursor, size, kind, out)?;
@@ -92,7 +87,7 @@ fn each_built(
 ) -> Option<u32>
     requires { InBounds (text_kind kind.now) }
     ensures few { IfSome result (λ count. count < 2 ^ counter_width size) }
-    ensures built { IfSome result (λ count. IsBuilt (λ vs. (value_count vs ≡ count) × EachShape (Shape (text_kind kind.now)) vs) (λ vs. each_onto (kind_onto (text_kind kind.now)) vs (closing ∷ [])) (each_canon (canon (text_kind kind.now))) cursor.old cursor.new out.old out.new) }
+    ensures built { IfSome result (λ count. BuildsEach (text_kind kind.now) count cursor.old cursor.new out.old out.new) }
 {
     let most = size.greatest();
     let mut count = 0;
@@ -118,7 +113,7 @@ fn compound_built(
     out: &mut LaidBits<'_>,
 ) -> Option<()>
     requires { AreSlots (text_slots slots.now) }
-    ensures { IfSome result (λ done. IsBuilt (EntriesShape 1 (text_slots slots.now)) (λ es. entries_onto 1 (text_slots slots.now) es (closing ∷ [])) (λ es. canon (compound (text_slots slots.now)) (marked es)) cursor.old cursor.new out.old out.new) }
+    ensures { IfSome result (λ done. BuildsCompound (text_slots slots.now) cursor.old cursor.new out.old out.new) }
 {
     let room = field_room(slots.as_slice().len());
     let at = out.leave(room)?;
@@ -185,7 +180,7 @@ pub fn entries_built(
     out: &mut LaidBits<'_>,
 ) -> Option<Presence>
     requires { AreSlots (text_slots slots.now) }
-    ensures { IfSome result (λ marks. IsBuilt (HasMarks (text_slots slots.now) marks) (λ es. entries_onto 1 (text_slots slots.now) es (closing ∷ [])) (entries_canon 1 (text_slots slots.now)) cursor.old cursor.new out.old out.new) }
+    ensures { IfSome result (λ marks. BuildsEntries (text_slots slots.now) marks cursor.old cursor.new out.old out.new) }
 {
     let list = slots.as_slice();
     let mut marks = Presence::empty();

@@ -1,10 +1,9 @@
 //! Records and lists of them.
-ghost use Rattle.std.specs.Prelude.{◌≡◌, ◌≤◌, [], IfSome};
-ghost use Rattle.ax_format.specs.Bodies.{RecordShape, CanonRecord};
+ghost use Rattle.std.specs.Prelude.{◌≤◌, [], IfSome};
 ghost use Rattle.ax_format.specs.Plain.{spec_tree};
 ghost use Rattle.ax_format.specs.Specification.{record_slots};
-ghost use Rattle.ax_text_form.specs.BlockText.{record_onto};
-ghost use Rattle.ax_printed_lines.specs.Printed.{IsBuilt, IsAfterOctet, AreSlots, AreRecords};
+ghost use Rattle.ax_printed_lines.specs.Builds.{BuildsRecord};
+ghost use Rattle.ax_printed_lines.specs.Printed.{IsAfterOctet, AreSlots, AreRecords};
 
 use crate::cursor::Cursor;
 use crate::kinds::entries_built;
@@ -22,7 +21,7 @@ fn record_built(
     out: &mut LaidBits<'_>,
 ) -> Option<()>
     requires { AreSlots (record_slots (spec_tree items.now)) }
-    ensures { IfSome result (λ done. IsBuilt (RecordShape (spec_tree items.now)) (λ es. record_onto (spec_tree items.now) es []) (CanonRecord (spec_tree items.now)) cursor.old cursor.new out.old out.new) }
+    ensures { IfSome result (λ done. BuildsRecord (spec_tree items.now) cursor.old cursor.new out.old out.new) }
 {
     if !cursor.takes(b"record") || !cursor.opens() {
         return None;

@@ -1,6 +1,6 @@
 //! What templates print, read from the front of a line.
-ghost use Rattle.std.specs.Prelude.{◌≡◌, ◌+◌, ◌-◌, ◌*◌, ◌^◌, ◌<◌, ◌≤◌, ◌++◌, ◌∷◌, length, take, drop, decimal, IsTrue, IfSome};
-ghost use Rattle.ax_printed_lines.specs.Runs.{IsRead, IsReadBehind};
+ghost use Rattle.std.specs.Prelude.{◌≡◌, ◌+◌, ◌*◌, ◌^◌, ◌<◌, ◌≤◌, ◌++◌, ◌∷◌, length, take, decimal, IsTrue, IfSome};
+ghost use Rattle.ax_printed_lines.specs.Runs.{IsRead, IsReadBehind, literal_from};
 ghost use Rattle.ax_text_lines.specs.Templates.{template_of, template_width, whole_template};
 
 use crate::names::eight_in_front;
@@ -75,7 +75,7 @@ fn after_step<'t>(
 ) -> Option<(u64, &'t [u8])>
     requires passed { (passed ≤ literal.now.count) × (passed ≤ 1) }
     requires width { width ≤ 56 }
-    ensures read { IfSome result (λ found. octets.now ≡ take (literal.now.count - passed) (drop passed literal.now.octets) ++ (decimal found.0 ++ found.1.now)) }
+    ensures read { IfSome result (λ found. octets.now ≡ literal_from literal.now passed ++ (decimal found.0 ++ found.1.now)) }
     ensures below { IfSome result (λ found. found.0 < 2 ^ width) }
 {
     let count = literal.count - passed;

@@ -5,6 +5,7 @@ pub mod Leading
 pub mod Meaning
 pub mod Parts
 pub mod Plans
+pub mod Rows
 pub mod Spelling
 pub mod Tests
 pub mod Texts

@@ -2,9 +2,10 @@
 use Rattle.std.specs.Prelude.{◌≡◌, ℕ, ◌-◌, ◌==◌, nat_lt, Bool, true, false, not, ◌&&◌, ◌||◌, if◌then◌else◌, List, [], ◌∷◌, ◌++◌, map, set, slice_index, slice_get, Option, Some, None, option_map, option_and_then}
 use Rattle.ax_fspec.specs.Marks.{common_marks, no_marks, slots_of}
 use Rattle.ax_format.specs.At.{slot_value, is_present, At}
+use Rattle.ax_format.specs.declared.place.Place.{Place}
 use Rattle.ax_format.specs.Tree.{EntriesTree}
 use Rattle.ax_expressions.specs.Meaning.{number_of, compares, some_passes}
-use Rattle.ax_expressions.specs.Tests.{TestTree, test_tree, passes}
+use Rattle.ax_expressions.specs.Tests.{TestTree, compares_there, test_tree, passes}
 use Rattle.ax_expressions.specs.declared.plan.Asking.{Asking}
 use Rattle.ax_expressions.specs.declared.plan.Asking.TheVariants.{Standing, Number}
 use Rattle.ax_expressions.specs.declared.plan.CategoryPlan.{CategoryPlan}
@@ -15,9 +16,15 @@ use Rattle.ax_expressions.specs.declared.plan.Plan.TheOpen.{Plan-F}
 use Rattle.ax_expressions.specs.declared.plan.Question.{Question}
 use Rattle.ax_expressions.specs.declared.plan.Want.{Want}
 use Rattle.ax_expressions.specs.declared.plan.Want.TheVariants.{There, Compares}
+use Rattle.ax_expressions.specs.declared.planning.Comparison.{Comparison}
+use Rattle.ax_expressions.specs.declared.test.Element.{Element}
 use Rattle.ax_expressions.specs.declared.test.Test.{Test}
 
 -- ---- questions
+
+-- the question about a place
+abbrev pub question_of : Asking → Place → Question
+question_of asking place = record { asking = asking; place = place }
 
 -- what a question finds in a record
 abbrev pub found_by : EntriesTree → Question → Asking → Option Found
@@ -140,6 +147,10 @@ abbrev pub AreAlike : Bool → List Plan → List Plan → Type 0
 AreAlike all ps qs = (marks : List ℕ) (found : ℕ → Option Found) → level_says all ps marks found ≡ level_says all qs marks found
 
 -- ---- plans of tests
+
+-- an element of a record compares so
+abbrev pub compares_so : Comparison → EntriesTree → Option Element → Bool
+compares_so comparison r element = compares_there comparison.op comparison.number r element
 
 -- nothing stands in slots that aren't marked
 abbrev pub MarkEach : List ℕ → EntriesTree → Type 0

@@ -2,8 +2,8 @@
 ghost use Rattle.std.specs.Prelude.{◌≡◌, ◌&&◌, map, IfOk};
 ghost use Rattle.ax_format.specs.At.{is_present};
 ghost use Rattle.ax_expressions.specs.Meaning.{compares, some_passes};
-ghost use Rattle.ax_expressions.specs.Plans.{Grow, finds_wanted, PlanEach, SaysAs, many_pass, plan_tree};
-ghost use Rattle.ax_expressions.specs.Tests.{compares_there, passes, test_tree};
+ghost use Rattle.ax_expressions.specs.Plans.{Grow, compares_so, finds_wanted, PlanEach, question_of, SaysAs, many_pass, plan_tree};
+ghost use Rattle.ax_expressions.specs.Tests.{passes, test_tree};
 ghost use Rattle.ax_expressions.specs.declared.plan.Want.TheVariants.{Compares};
 
 use crate::asking::asking;
@@ -15,6 +15,13 @@ use crate::test::{Element, Test, Tests};
 use ax_format::Place;
 use std::alloc::{AllocError, Global};
 
+/// How the number of an element compares, and with which one.
+#[derive(Clone, Copy)]
+struct Comparison {
+    op: Op,
+    number: i128,
+}
+
 /// The plan of a question about a place.
 fn plan_place(
     alloc: Global,
@@ -23,7 +30,7 @@ fn plan_place(
     want: Want,
     numbering: &mut Numbering,
 ) -> Result<Plan, AllocError>
-    ensures plan { IfOk result (λ made. SaysAs numbering.new.questions (plan_tree made) (finds_wanted want (record { asking = asking; place = place.now }))) }
+    ensures plan { IfOk result (λ made. SaysAs numbering.new.questions (plan_tree made) (finds_wanted want (question_of asking place.now))) }
     ensures grow { Grow numbering.old.questions numbering.new.questions }
 {
     let question = number_of(alloc, asking, place, numbering)?;
@@ -50,15 +57,15 @@ fn plan_present(
     }
 }
 
-/// That the number of an element's bits compares so with this one.
-fn want_of(element: &Element, op: Op, number: i128) -> Want
-    ensures { result ≡ Compares op element.now.signed element.now.width number }
+/// That the number of an element's bits compares so.
+fn want_of(element: &Element, comparison: Comparison) -> Want
+    ensures { result ≡ Compares comparison.op element.now.signed element.now.width comparison.number }
 {
     Want::Compares {
-        op,
+        op: comparison.op,
         signed: element.signed,
         width: element.width,
-        number,
+        number: comparison.number,
     }
 }
 
@@ -67,16 +74,15 @@ fn plan_number(
     alloc: Global,
     own: bool,
     element: &Option<Element>,
-    op: Op,
-    number: i128,
+    comparison: Comparison,
     numbering: &mut Numbering,
 ) -> Result<Plan, AllocError>
-    ensures plan { IfOk result (λ made. SaysAs numbering.new.questions (plan_tree made) (λ r. own && compares_there op number r element.now)) }
+    ensures plan { IfOk result (λ made. SaysAs numbering.new.questions (plan_tree made) (λ r. own && compares_so comparison r element.now)) }
     ensures grow { Grow numbering.old.questions numbering.new.questions }
 {
     match element {
         Some(element) if own => {
-            let want = want_of(element, op, number);
+            let want = want_of(element, comparison);
             plan_place(alloc, Asking::Number, &element.place, want, numbering)
         }
         _ => Ok(Plan::Always { holds: false }),
@@ -138,7 +144,13 @@ pub fn plan_of(
             element,
             op,
             number,
-        } => plan_number(alloc, *own == category, element, *op, *number, numbering),
+        } => {
+            let comparison = Comparison {
+                op: *op,
+                number: *number,
+            };
+            plan_number(alloc, *own == category, element, comparison, numbering)
+        }
     }
 }
 

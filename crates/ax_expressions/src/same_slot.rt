@@ -1,6 +1,7 @@
 //! Plans of one level that ask one slot alone, and the same: a group of them would say nothing that each doesn't, so they stand in one row.
 ghost use Rattle.std.specs.Prelude.{◌≡◌, ◌*◌, ◌≤◌, ◌++◌, ◌∷◌, [], length, IfOk, OnOk};
 ghost use Rattle.ax_expressions.specs.Plans.{AreAlike};
+ghost use Rattle.ax_expressions.specs.Rows.{plans_in};
 
 use crate::grouping::{TOGETHER, asked_by, several};
 use crate::plan::{Plan, Plans};
@@ -45,64 +46,57 @@ fn begins_row(before: &[Plan], slot: u32) -> bool {
     slot > 0 && before.len() >= others && only_asked(&before[before.len() - others]) == slot
 }
 
+/// The plans of a level, those in rows made one: the plans that are made, and the row that is open, of plans that ask the slot `slot`
+/// alone and the same. Where no row is open the slot is 0.
+#[derive(Drop)]
+struct Rows {
+    made: Vec<Plan>,
+    row: Plans,
+    slot: u32,
+}
+
 /// Makes one plan of the row that is open, if one is.
-fn close_row(
-    alloc: Global,
-    all: bool,
-    made: &mut Vec<Plan>,
-    row: &mut Plans,
-) -> Result<(), AllocError>
-    ensures alike { OnOk result (AreAlike all (made.new.items ++ row.new) (made.old.items ++ row.old)) }
-    ensures none { OnOk result (row.new ≡ []) }
+fn close_row(alloc: Global, all: bool, rows: &mut Rows) -> Result<(), AllocError>
+    ensures alike { OnOk result (AreAlike all (plans_in rows.new) (plans_in rows.old)) }
+    ensures none { OnOk result (rows.new.row ≡ []) }
 {
-    if row.count() == 0 {
+    if rows.row.count() == 0 {
         return Ok(());
     }
-    let full = mem::replace(row, Plans::new(alloc));
-    made.push(several(all, full))?;
+    let full = mem::replace(&mut rows.row, Plans::new(alloc));
+    rows.made.push(several(all, full))?;
     Ok(())
 }
 
-/// Closes the row of the slot that is open, if the next plan, which asks the slot `own` alone, isn't of it. The plans before it are
-/// those that come after. Ok is the slot of the row that is open then, or 0.
+/// Closes the row that is open, if the next plan, which asks the slot `own` alone, isn't of it, and opens its own one, if it begins
+/// one. The plans before it are those that come after.
 fn open_row(
     alloc: Global,
     all: bool,
     before: &[Plan],
     own: u32,
-    slot: u32,
-    made: &mut Vec<Plan>,
-    row: &mut Plans,
-) -> Result<u32, AllocError>
-    ensures alike { OnOk result (AreAlike all (made.new.items ++ row.new) (made.old.items ++ row.old)) }
-    ensures room { OnOk result (length row.new ≤ 4294967294) }
+    rows: &mut Rows,
+) -> Result<(), AllocError>
+    ensures alike { OnOk result (AreAlike all (plans_in rows.new) (plans_in rows.old)) }
+    ensures room { OnOk result (length rows.new.row ≤ 4294967294) }
 {
-    if own == slot && row.count() < u32::MAX {
-        return Ok(slot);
+    if own == rows.slot && rows.row.count() < u32::MAX {
+        return Ok(());
     }
-    close_row(alloc, all, made, row)?;
-    if begins_row(before, own) {
-        Ok(own)
-    } else {
-        Ok(0)
-    }
+    close_row(alloc, all, rows)?;
+    rows.slot = if begins_row(before, own) { own } else { 0 };
+    Ok(())
 }
 
 /// Adds a plan to the row, if one is open, or else to the plans that are made.
-fn put(
-    all: bool,
-    open: bool,
-    plan: Plan,
-    made: &mut Vec<Plan>,
-    row: &mut Plans,
-) -> Result<(), AllocError>
-    requires room { length row.old ≤ 4294967294 }
-    ensures { OnOk result (AreAlike all (made.new.items ++ row.new) (made.old.items ++ (row.old ++ plan ∷ []))) }
+fn put(all: bool, plan: Plan, rows: &mut Rows) -> Result<(), AllocError>
+    requires room { length rows.old.row ≤ 4294967294 }
+    ensures { OnOk result (AreAlike all (plans_in rows.new) (rows.old.made.items ++ (rows.old.row ++ plan ∷ []))) }
 {
-    if open {
-        row.push(plan)
+    if rows.slot > 0 {
+        rows.row.push(plan)
     } else {
-        made.push(plan)?;
+        rows.made.push(plan)?;
         Ok(())
     }
 }
@@ -112,14 +106,16 @@ pub fn joined_by_slot(alloc: Global, all: bool, plans: Vec<Plan>) -> Result<Vec<
     ensures { IfOk result (λ made. AreAlike all made.items plans.items) }
 {
     let mut left = plans;
-    let mut made = Vec::new(alloc);
-    let mut row = Plans::new(alloc);
-    let mut slot = 0;
+    let mut rows = Rows {
+        made: Vec::new(alloc),
+        row: Plans::new(alloc),
+        slot: 0,
+    };
     while let Some(plan) = left.pop() {
         let own = only_asked(&plan);
-        slot = open_row(alloc, all, left.as_slice(), own, slot, &mut made, &mut row)?;
-        put(all, slot > 0, plan, &mut made, &mut row)?;
+        open_row(alloc, all, left.as_slice(), own, &mut rows)?;
+        put(all, plan, &mut rows)?;
     }
-    close_row(alloc, all, &mut made, &mut row)?;
-    Ok(made)
+    close_row(alloc, all, &mut rows)?;
+    Ok(rows.made)
 }

@@ -1,9 +1,9 @@
 //! The entries of a table, by their numbers.
-ghost use Rattle.std.specs.Prelude.{◌≡◌, ℕ, ◌==◌, find, option_map, cond, is_some, Some, None, IfOk, OnOk};
+ghost use Rattle.std.specs.Prelude.{◌≡◌, ℕ, ◌==◌, find, option_map, IfOk, OnOk};
 ghost use Rattle.std.specs.BTreeMap.{get};
 ghost use Rattle.std.specs.Option.{option_copied};
 ghost use Rattle.std.specs.Ordering.{nat_cmp};
-ghost use Rattle.ax_held_kinds.specs.Entries.{alone, said_by};
+ghost use Rattle.ax_held_kinds.specs.Entries.{alone, kept_or, said_by};
 ghost use Rattle.ax_format.specs.declared.content.Content.TheVariants.{Raw};
 
 use ax_format::{Content, TableText, TableTexts};
@@ -38,7 +38,7 @@ fn keep_first(
     first: &mut BTreeMap<u128, Content>,
     entry: &TableText,
 ) -> Result<(), AllocError>
-    ensures { OnOk result ((n : ℕ) → get nat_cmp first.new n ≡ cond (is_some (get nat_cmp first.old n)) (get nat_cmp first.old n) (cond (entry.now.number == n) (Some (alone entry.now)) None)) }
+    ensures { OnOk result ((n : ℕ) → get nat_cmp first.new n ≡ kept_or (get nat_cmp first.old n) entry.now n) }
 {
     let number = u128::from(entry.number);
     if !first.contains_key(&number) {

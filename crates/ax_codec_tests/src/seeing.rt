@@ -7,7 +7,7 @@ use ax_check::Accepted;
 use ax_model::{RawBlock, Record, Spec};
 use ax_tables::Codec;
 use ax_values::decode_block;
-use ax_view::{BlockView, RecordView, scan};
+use ax_view::{BlockView, RecordView, ToValue, scan};
 use std::alloc::Global;
 use std::process::Abort;
 

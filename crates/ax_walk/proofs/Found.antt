@@ -147,9 +147,6 @@ module _ (nodes : List Node) (links marks left now body : List ℕ) (t at here s
     pub next_found : t ≡ slot → Some (value_in (kind_at nodes (get_or links (t - 1) 0)) (take (end - here) (drop here body))) ≡ slot_value slot (entries_found (entries_at (slots_of (linked_slots (meanings nodes) links)) marks body at))
     next_found this = ap (λ v. Some v) next_alone.value ∙ sym (ap (slot_value slot) found ∙ here_is slot t w.value (entries_found (entries_at (slots_of (linked_slots (meanings nodes) links)) now body end)) (Least.here t slot this)) ∙ h.same
 
-    pub next_one : length body ≤ 65532 → IsOne (kind_at nodes (get_or links (t - 1) 0)) (take (end - here) (drop here body))
-    next_one few = walked_one (kind_at nodes (get_or links (t - 1) 0)) body here end w.value n.bounds w.read few
-
 pub left_none : (slots : List SlotTree) (marks left body : List ℕ) (at here slot : ℕ) → Left slots marks left body at here slot → Marks.slots_of left ≡ [] → None ≡ slot_value slot (entries_found (entries_at (slots_of slots) marks body at))
 unfolding entries_at
 left_none slots marks left body at here slot h e = sym (ap (λ r. slot_value slot (entries_found r)) (no_entries_left 1 (slots_of slots) left (bits (drop here body)) (no_next_slot 1 left e))) ∙ h.same

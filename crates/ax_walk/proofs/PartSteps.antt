@@ -102,9 +102,6 @@ module _ (nodes : List Node) (last : LastPart) (all left later body : List ℕ) 
   split : PartsFound nodes last all (p ∷ later) body here i n
   split = subst (λ left. PartsFound nodes last all left body here i n) e h
 
-  pub part_link : (0 < p) × (p ≤ length nodes)
-  part_link = split.links.0
-
   module _ (w fx : ℕ) (is : w ≡ members_width (linked_part (meanings nodes) p)) (s : fx ≡ fx_width last (length (linked_parts (meanings nodes) later))) where
     pub part_wide : ((w + fx) % 8 ≡ 0) × (w + fx ≤ 524264)
     part_wide = wide_part last (linked_part (meanings nodes) p) (linked_parts (meanings nodes) later) w fx split.bounds.0 is s

@@ -123,6 +123,3 @@ OccurrencesBy (Of.Compound mask links) outer shown = shown ≡ []
 
 pub record IsOccurrences (outer : ItemView) (shown : List Occurrence) : Type 0 where
   pub occurrences_are : OccurrencesBy (get_or outer.codec.now.nodes (outer.link - 1) Of.Explicit) outer shown
-
-abbrev pub occurrence_value : Occurrence → ValueTree
-occurrence_value o = value_in (kind_at o.0.nodes o.1) o.3

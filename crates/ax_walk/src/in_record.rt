@@ -11,9 +11,18 @@ use crate::finding::find;
 use crate::item::ItemView;
 use crate::record::RecordView;
 use crate::spot::{Spot, fixed_number, spot_of};
+use ax_codec::Codec;
 use ax_format::Place;
 
 impl<'c, 'a> RecordView<'c, 'a> {
+    /// The codec that the record is seen under.
+    #[inline]
+    pub fn codec(&self) -> &'c Codec
+        ensures { result.now ≡ self.now.codec.now }
+    {
+        self.codec
+    }
+
     /// The octets that spell the record, and no others.
     #[inline]
     pub fn octets(&self) -> &'a [u8]

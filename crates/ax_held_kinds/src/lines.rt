@@ -11,7 +11,7 @@ ghost use Rattle.ax_text_form.specs.Listable.{ContentListable};
 use ax_format::{Content, Fixed, Name, Scale};
 use ax_lists::Sequence;
 use ax_octets::Literal;
-use ax_text_form::Lister;
+use ax_text_form::{Lister, NamedPlace};
 use std::alloc::{AllocError, Global};
 
 /// The lines of the numbers of an element, from 0 on, each without the path above the element's name.
@@ -112,8 +112,8 @@ impl LineMaker {
     {
         self.lister.clear();
         let above = self.lister.blank_path();
-        self.lister
-            .element_under(number, width, content, &above, name)?;
+        let place = NamedPlace { path: &above, name };
+        self.lister.element_under(number, width, content, &place)?;
         Ok(Literal::of(self.lister.listing()))
     }
 

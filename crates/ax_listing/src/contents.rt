@@ -12,7 +12,7 @@ use crate::element::Element;
 use ax_format::{Content, Name};
 use ax_held_kinds::HeldContent;
 use ax_octets::LinePath;
-use ax_text_form::Lister;
+use ax_text_form::{HeldScale, Lister, NamedPlace};
 use std::alloc::AllocError;
 
 /// A content that says of this number what the held one says. Of a table of many entries it is that of the number's first entry
@@ -43,12 +43,16 @@ pub(crate) fn put_under(
     ensures { OnOk result (PutsLines (one_onto (line_of element.entry (under path.now name.now) number)) lister.old lister.new) }
 {
     let width = element.width;
+    let place = NamedPlace { path, name };
     if let HeldContent::Quantity(quantity) = element.content {
-        let ends = quantity.ends.as_slice();
-        return lister.quantity_under(number, width, quantity.scale, ends, path, name);
+        let held = HeldScale {
+            scale: quantity.scale,
+            ends: quantity.ends.as_slice(),
+        };
+        return lister.quantity_under(number, width, &held, &place);
     }
     let found = content_of(element.content, u128::from(number));
-    lister.element_under(number, width, found, path, name)
+    lister.element_under(number, width, found, &place)
 }
 
 /// The line of an element of this number at a path.

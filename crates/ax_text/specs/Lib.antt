@@ -2,6 +2,7 @@ pub use Rattle.ax_text_form.specs.BlockText
 pub use Rattle.ax_text_form.specs.CatalogueBlocks
 pub use Rattle.ax_text_form.specs.FractionEnds
 pub use Rattle.ax_text_form.specs.Listable
+pub use Rattle.ax_text_form.specs.NamedPlaces
 pub use Rattle.ax_text_form.specs.Names
 pub use Rattle.ax_text_form.specs.Printing
 pub use Rattle.ax_text_form.specs.Readable
@@ -10,3 +11,4 @@ pub use Rattle.ax_text_form.specs.ShowText
 pub use Rattle.ax_text_form.specs.Slots
 pub use Rattle.ax_text_form.specs.Tokens
 pub use Rattle.ax_text_form.specs.ValueText
+pub mod EntryLines

@@ -15,9 +15,7 @@ pub mod Twos
 mod SixBits
 pub mod RemarkWays
 pub mod QuantityLines
-pub mod ListedFixed
 pub mod ListedKinds
-pub mod ListedRecords
 pub mod ShowWays
 pub mod Listables
 pub mod CategoryTexts

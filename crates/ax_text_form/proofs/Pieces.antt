@@ -31,9 +31,9 @@ line_put old mid new line e f = record { put = λ rest. ap (λ t. t ++ as_lines 
 four : (a b c d : List ℕ) → a ++ (b ++ (c ++ d)) ≡ a ++ b ++ c ++ d
 four a b c d = sym (append_assoc (a ++ b) c d ∙ append_assoc a b (c ++ d))
 
-pub count_put : (old a b c path word : List ℕ) (n : ℕ) → a ≡ old ++ (path ++ (codes " " ++ (word ++ codes " "))) → b ≡ a ++ decimal n → c ≡ b ++ 0x0A ∷ [] → Puts as_lines (one_onto (count_line path word n)) old c
-count_put old a b c path word n e f g =
-    line_put old b c (count_line path word n) (two_pieces old a b (path ++ codes " " ++ word ++ codes " ") (decimal n) (e ∙ ap (λ t. old ++ t) (four path (codes " ") word (codes " "))) f) g
+-- two pieces and a line feed
+pub two_put : (old a b c x y : List ℕ) → a ≡ old ++ x → b ≡ a ++ y → c ≡ b ++ 0x0A ∷ [] → Puts as_lines (one_onto (x ++ y)) old c
+two_put old a b c x y e f g = line_put old b c (x ++ y) (two_pieces old a b x y e f) g
 
 pub content_put : (old a b c d path octets : List ℕ) → a ≡ old ++ path → b ≡ a ++ codes " octets " → c ≡ b ++ hex_text octets → d ≡ c ++ 0x0A ∷ [] → Puts as_lines (one_onto (content_line path octets)) old d
 content_put old a b c d path octets e f g h = line_put old c d (content_line path octets) (three_pieces old a b c path (codes " octets ") (hex_text octets) e f g) h
@@ -54,11 +54,13 @@ pub wide_spare_put : (old a b c new path : List ℕ) (n : ℕ) → a ≡ old ++ 
 wide_spare_put old a b c new path n e f g h =
     line_put old c new (number_line (at path (codes "spare")) n) (three_pieces old a b c path (codes "/" ++ (codes "spare" ++ codes " = ")) (decimal n) e f g ∙ ap (λ t. old ++ t) (append_assoc path (codes "/spare = ") (decimal n) ∙ named path (codes "spare") (decimal n))) h
 
-pub element_put : (old mid new path name padded remark : List ℕ) (count n : ℕ) → take count padded ≡ name → mid ≡ old ++ (path ++ (codes "/" ++ (take count padded ++ (codes " = " ++ decimal n)))) → new ≡ mid ++ (remark ++ 0x0A ∷ [])
-    → Puts as_lines (one_onto (number_line (at path name) n ++ remark)) old new
-element_put old mid new path name padded remark count n is e f =
-    let front : mid ≡ old ++ number_line (at path name) n = e ∙ ap (λ name. old ++ (path ++ (codes "/" ++ (name ++ (codes " = " ++ decimal n))))) is ∙ ap (λ t. old ++ t) (named path name (decimal n)) in
-    line_put old (mid ++ remark) new (number_line (at path name) n ++ remark) (ap (λ t. t ++ remark) front ∙ append_assoc old (number_line (at path name) n) remark) (f ∙ sym (append_assoc mid remark (0x0A ∷ [])))
+-- the front of the line of a number under a path
+pub named_put : (old new path name padded : List ℕ) (count n : ℕ) → take count padded ≡ name → new ≡ old ++ (path ++ (codes "/" ++ (take count padded ++ (codes " = " ++ decimal n)))) → new ≡ old ++ number_line (at path name) n
+named_put old new path name padded count n is e = e ∙ ap (λ name. old ++ (path ++ (codes "/" ++ (name ++ (codes " = " ++ decimal n))))) is ∙ ap (λ t. old ++ t) (named path name (decimal n))
+
+-- that front, a remark and the line feed
+pub element_put : (old mid new front remark : List ℕ) → mid ≡ old ++ front → new ≡ mid ++ (remark ++ 0x0A ∷ []) → Puts as_lines (one_onto (front ++ remark)) old new
+element_put old mid new front remark e f = line_put old (mid ++ remark) new (front ++ remark) (ap (λ t. t ++ remark) e ∙ append_assoc old front remark) (f ∙ sym (append_assoc mid remark (0x0A ∷ [])))
 
 pub none_put : (old mid new path word : List ℕ) → mid ≡ old ++ path → new ≡ mid ++ (codes " " ++ (word ++ codes " 0\n")) → Puts as_lines (one_onto (count_line path word 0)) old new
 none_put old mid new path word e f =

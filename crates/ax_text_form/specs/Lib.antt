@@ -10,3 +10,4 @@ pub mod FractionEnds
 pub mod ShowText
 pub mod Listable
 pub mod CatalogueBlocks
+pub mod NamedPlaces

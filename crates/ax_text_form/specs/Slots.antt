@@ -45,6 +45,3 @@ slot_lines path (subitem name k) v rest = kind_lines k (at path name) v rest
 
 abbrev pub entry_onto : SlotsTree → Entry → Texts → Texts
 entry_onto ss entry = slot_onto (slot_numbered ss entry.slot) (value_tree entry.value)
-
-abbrev pub entry_lines : List ℕ → SlotsTree → Entry → Texts → Texts
-entry_lines path ss entry = slot_lines path (slot_numbered ss entry.slot) (value_tree entry.value)

@@ -5,15 +5,23 @@ ghost use Rattle.ax_tokens.specs.Octets.{line_feed};
 ghost use Rattle.ax_text_form.specs.Listable.{ContentListable};
 ghost use Rattle.std.specs.Fmt.{signed_decimal};
 ghost use Rattle.ax_format.specs.Paths.{at};
+ghost use Rattle.ax_text_form.specs.NamedPlaces.{place_path};
 ghost use Rattle.ax_text_form.specs.Printing.{PutsLines};
 ghost use Rattle.ax_text_form.specs.Remarks.{quoted};
-ghost use Rattle.ax_text_form.specs.ShowText.{number_line, count_line, content_line, occurrence, element_line};
+ghost use Rattle.ax_text_form.specs.ShowText.{number_line, count_line, content_line, element_line};
 ghost use Rattle.ax_text_form.specs.ValueText.{one_onto, hex_text};
 
 use ax_format::{Content, Name};
 use ax_octets::{LinePath, Literal, OctetBuffer};
 use itoa::Buffer;
 use std::alloc::{AllocError, Global};
+
+/// The place of an element: a path, and the element's name under it.
+#[derive(Drop)]
+pub struct NamedPlace<'p> {
+    pub path: &'p LinePath,
+    pub name: &'p Name,
+}
 
 /// A listing that lines are put on.
 #[derive(Drop)]
@@ -115,24 +123,6 @@ impl Lister {
         self.out.text3(b"\"", digits.as_bytes(), b"\"")
     }
 
-    /// The front of the line of a number: its path and itself.
-    pub(crate) fn number(&mut self, number: u128, path: &[u8]) -> Result<(), AllocError>
-        ensures { OnOk result (self.new.out ≡ self.old.out ++ number_line path.now number) }
-    {
-        self.octets(path)?;
-        self.octets(b" = ")?;
-        self.decimal(number)
-    }
-
-    /// The line that says how many there are of something.
-    pub fn count(&mut self, word: &[u8], count: u32, path: &[u8]) -> Result<(), AllocError>
-        ensures { OnOk result (PutsLines (one_onto (count_line path.now word.now count)) self.old self.new) }
-    {
-        self.out.text4(path, b" ", word, b" ")?;
-        self.decimal(u128::from(count))?;
-        self.octet(b'\n')
-    }
-
     /// The line that says that there are none of something, at a path.
     #[inline(always)]
     pub fn none_of(&mut self, word: &[u8], path: &LinePath) -> Result<(), AllocError>
@@ -197,24 +187,36 @@ impl Lister {
         self.octet(b'\n')
     }
 
-    /// The line of an element of so many bits under a path and its name.
+    /// The line of an element of so many bits at its place.
     #[inline(never)]
     pub fn element_under(
         &mut self,
         number: u64,
         width: u32,
         content: &Content,
-        path: &LinePath,
-        name: &Name,
+        place: &NamedPlace<'_>,
     ) -> Result<(), AllocError>
         requires width { IsWidth width }
         requires content { ContentListable width content.now }
         requires fits { number < 2 ^ width }
-        ensures { OnOk result (PutsLines (one_onto (element_line width content.now (at path.now name.now) number)) self.old self.new) }
+        ensures { OnOk result (PutsLines (one_onto (element_line width content.now (place_path place.now) number)) self.old self.new) }
     {
-        self.out
-            .named_number(path, name.padded(), name.octets().len(), number)?;
+        self.number_under(number, place)?;
         self.remark_end(number, width, content)
+    }
+
+    /// The front of the line of a number at its place.
+    #[inline(always)]
+    pub(crate) fn number_under(
+        &mut self,
+        number: u64,
+        place: &NamedPlace<'_>,
+    ) -> Result<(), AllocError>
+        ensures { OnOk result (self.new.out ≡ self.old.out ++ number_line (place_path place.now) number) }
+    {
+        let name = place.name;
+        self.out
+            .named_number(place.path, name.padded(), name.octets().len(), number)
     }
 
     /// Puts a path and a literal after it.
@@ -232,16 +234,6 @@ impl Lister {
         self.out.path(path)?;
         self.out.text3(b"/", b"spare", b" = ")?;
         self.decimal(number)?;
-        self.octet(b'\n')
-    }
-
-    /// The line of an explicit content.
-    pub fn content(&mut self, octets: &[u8], path: &[u8]) -> Result<(), AllocError>
-        ensures { OnOk result (PutsLines (one_onto (content_line path.now octets.now)) self.old self.new) }
-    {
-        self.octets(path)?;
-        self.octets(b" octets ")?;
-        self.hex(octets)?;
         self.octet(b'\n')
     }
 }

@@ -1,11 +1,8 @@
 //! The output, token by token.
-ghost use Rattle.std.specs.Prelude.{◌≡◌, [], ◌∷◌, ◌++◌, decimal, IfOk, OnOk};
-ghost use Rattle.ax_format.specs.Paths.{three_digits};
-ghost use Rattle.ax_tokens.specs.Octets.{line_feed};
+ghost use Rattle.std.specs.Prelude.{decimal, OnOk};
 ghost use Rattle.ax_text_form.specs.Printing.{PutsTexts};
 ghost use Rattle.ax_text_form.specs.ValueText.{one_onto, hex_text};
 
-use ax_format::category_digits;
 use itoa::Buffer;
 use std::alloc::{AllocError, Global};
 
@@ -39,13 +36,6 @@ impl TreePrinter {
         }
     }
 
-    /// A category in three digits.
-    pub(crate) fn category(&mut self, category: u8) -> Result<(), AllocError>
-        ensures { OnOk result (PutsTexts (one_onto (three_digits category)) self.old self.new) }
-    {
-        self.text(&category_digits(category))
-    }
-
     /// Octets in hexadecimal digits, in quotes.
     #[tactic(auto, using(crate::proofs::Printed::hex_put))]
     pub(crate) fn hex(&mut self, octets: &[u8]) -> Result<(), AllocError>
@@ -56,14 +46,5 @@ impl TreePrinter {
         self.out.extend_from_slice(digits.as_bytes())?;
         self.out.push(b'"')?;
         Ok(())
-    }
-
-    /// The output as a line, with its line feed.
-    pub(crate) fn line(self) -> Result<Vec<u8>, AllocError>
-        ensures { IfOk result (λ line. line.items ≡ self.out.items ++ line_feed ∷ []) }
-    {
-        let TreePrinter { mut out, .. } = self;
-        out.push(b'\n')?;
-        Ok(out)
     }
 }

@@ -1,0 +1,6 @@
+pub mod LinePaths
+pub mod ListedBlocks
+pub mod ListedMembers
+pub mod ListedRecords
+pub mod ListedValues
+pub mod RecordTexts

@@ -1,6 +1,0 @@
-use Rattle.ax_text_form.proofs.Pieces.{last_put}
-use Rattle.ax_text_form.proofs.ListedKinds.{extended_put}
-use Rattle.ax_text_form.proofs.lister.Lister.extended.Goals as goal
-
-pub returns : goal.returns
-returns c = last_put c.parts.result c.parts.ensures (λ h. extended_put c.args.path.now c.args.parts.now c.args.lists.now c.count.result _ _ _ c.count.ensures c.in_ok-count.ensures h)

@@ -1,6 +1,0 @@
-use Rattle.ax_format.specs.Plain.{value_tree}
-use Rattle.ax_text_form.proofs.ListedRecords.{no_item}
-use Rattle.ax_text_form.proofs.lister.Lister.item.Goals as goal
-
-pub returns-in_default : goal.returns-in_default
-returns-in_default c = no_item c.args.spec.now c.args.entry.now.slot (value_tree c.args.entry.now.value) c.args.path.now c.args.self.now.out c.in_default.ensures

@@ -2,7 +2,7 @@
 use Rattle.std.proofs.Common.{◌≡◌, ℕ, zero, suc, ◌-◌, ◌<◌, ◌≤◌, List, [], ◌∷◌, length, map, get_or, Box, Global, refl, sym, ◌∙◌, ap, arith}
 use Rattle.ax_format.proofs.VariantTrees.{element_tree, group_tree, extended_tree, counted_tree, by_fx_tree, explicit_tree, compound_tree, fixed_kind_tree}
 use Rattle.ax_format.specs.Plain.{fixed_step, member_step, fixed_tree, member_tree, part_tree, kind_step, slot_step, kind_tree, slot_tree}
-use Rattle.ax_format.specs.Tree.{FixedTree, group, MemberTree, named, members_of, KindTree, fixed, extended, counted, by_fx, compound, SlotTree, spare_slot, subitem, slots_of}
+use Rattle.ax_format.specs.Tree.{FixedTree, group, MemberTree, named, members_of, KindTree, fixed, extended, counted, by_fx, compound, SlotTree, subitem, slots_of}
 use Rattle.ax_format.specs.declared.content.Content.TheVariants.{Raw}
 use Rattle.ax_format.specs.declared.kind.Counter.{Counter}
 use Rattle.ax_format.specs.declared.kind.Fixed.{Fixed}
@@ -16,7 +16,7 @@ use Rattle.ax_format.specs.declared.kind.Member.TheVariants.{Named, rolls-Named}
 use Rattle.ax_format.specs.declared.kind.Part.{Part}
 use Rattle.ax_format.specs.declared.kind.Slot.{Slot, fold-roll-Slot}
 use Rattle.ax_format.specs.declared.kind.Kind.TheOpen.{Slot-F}
-use Rattle.ax_format.specs.declared.kind.Slot.TheVariants.{Spare, Sub, rolls-Spare, rolls-Sub}
+use Rattle.ax_format.specs.declared.kind.Slot.TheVariants.{Sub, rolls-Sub}
 use Rattle.ax_fspec.specs.declared.mask.SlotMask.{SlotMask}
 use Rattle.ax_codec.proofs.BareKinds.{bare_members_of, bare_slots_of}
 use Rattle.ax_codec.proofs.Tables.{link_means, kind_right}
@@ -53,12 +53,6 @@ member_made name f ms link h = ap bare_member tree ∙ ap (λ f. named [] f) h
   where
     tree : member_tree (Named name f) ≡ named name (fixed_tree f)
     tree = ap member_tree (sym (rolls-Named name f)) ∙ fold-roll-Member FixedTree MemberTree fixed_step member_step (Member-F.Named name f)
-
-pub spare_made : (ms : List Meaning) (link : ℕ) → link ≡ 0 → bare_slot (slot_tree Spare) ≡ linked_slot ms link
-spare_made ms link e = ap bare_slot tree ∙ ap (linked_slot ms) (sym e)
-  where
-    tree : slot_tree Spare ≡ spare_slot
-    tree = ap slot_tree (sym rolls-Spare) ∙ fold-roll-Slot KindTree SlotTree kind_step slot_step Slot-F.Spare
 
 slot_leads : (ms : List Meaning) (link : ℕ) → 0 < link → linked_slot ms link ≡ subitem [] (kind_of (linked ms link))
 slot_leads ms zero some = absurd (omega arith)

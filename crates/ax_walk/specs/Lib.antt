@@ -1,5 +1,6 @@
 pub mod InPlace
 pub mod Left
+pub mod Marked
 pub mod Noted
 pub mod Pieces
 pub mod Plain

@@ -1,54 +1,51 @@
 //! The walk over a record by the rows of its slots.
-ghost use Rattle.std.specs.Prelude.{◌≡◌, ◌+◌, ◌-◌, ◌*◌, ◌/◌, ◌<◌, ◌≤◌, ◌++◌, length, map, take, drop, ℕ, List, IfSome, IsTrue};
+ghost use Rattle.std.specs.Prelude.{◌+◌, ◌*◌, ◌<◌, ◌≤◌, length, IfSome, IsTrue};
 ghost use Rattle.ax_fspec.specs.Marks.{seven};
-ghost use Rattle.ax_fspec.specs.declared.mask.SlotMask.{SlotMask};
-ghost use Rattle.ax_format.specs.InBounds.{InBounds};
 ghost use Rattle.ax_format.specs.Presence.{octets_needed};
 ghost use Rattle.ax_format.specs.Sizes.{longest_body};
-ghost use Rattle.ax_fspec.specs.Reading.{IsMaskOf};
 ghost use Rattle.ax_rows.specs.Rows.{IsRow, AreRows};
-ghost use Rattle.ax_codec.specs.Meaning.{meanings, linked_slots};
-ghost use Rattle.ax_codec.specs.Octets.{octets_of};
-ghost use Rattle.ax_codec.specs.Table.{IsTable, SlotLinksWithin, record_kind_at};
-ghost use Rattle.ax_walk.specs.Rows.{AreSlots, SlotsLead, IsField, HaveRows, WalksItems, marks_of, slots_at};
-ghost use Rattle.ax_walk.specs.Walking.{WalksKind};
+ghost use Rattle.ax_walk.specs.Marked.{FieldHasRows, RowLeads, RowsLead, slots_kind};
+ghost use Rattle.ax_walk.specs.Rows.{IsField, WalksItems, slots_at};
+ghost use Rattle.ax_walk.specs.Walking.{WalksFrom};
 
 use crate::compound_rows::ByRows;
 use crate::notes::Notes;
 use crate::octets::note_field;
+use crate::start::{Field, Start, are_octets};
+use crate::table::Slots;
 use crate::value_walk::ValueWalk;
-use ax_codec::{Codec, Node};
-use ax_fspec::SlotMask;
+use ax_codec::Codec;
 use ax_rows::{NO_ROW, Rows, Step};
 
-/// The octet after the values of the slots that presence octet `index` marks, by its row. None says nothing.
+/// The row of a presence octet: it begins with the step of number `first`.
+#[derive(Clone, Copy)]
+struct Row<'r> {
+    steps: &'r [Step],
+    first: u32,
+    /// The number of the presence octet in its field, from 0, and its seven marks.
+    index: u32,
+    marks: u8,
+}
+
+/// The octet after the values of the slots that a presence octet marks, by its row. None says nothing.
 #[inline(always)]
 fn walk_row<W: ValueWalk>(
     values: &W,
-    nodes: &[Node],
-    octets: &[u32],
-    steps: &[Step],
-    first: u32,
-    slots: &[u32],
-    index: u32,
-    marks: u8,
-    body: &[u8],
-    at: u32,
+    slots: Slots<'_>,
+    row: Row<'_>,
+    start: Start<'_>,
     notes: &mut Notes,
 ) -> Option<u32>
-    requires table { IsTable nodes.now }
-    requires octets { octets.now ≡ map octets_of nodes.now }
-    requires fits { W.fits values.now nodes.now octets.now }
-    requires slots { AreSlots nodes.now (slots_at index slots.now) }
-    requires row { IsRow octets.now (slots_at index slots.now) (seven marks) steps.now first }
-    requires body { length body.now ≤ longest_body }
-    requires at { at ≤ length body.now }
-    ensures end { IfSome result (λ end. (s : ℕ) (more : List ℕ) → SlotsLead nodes.now body.now s (slots_at index slots.now) (seven marks ++ more) at (s + 7) (drop 7 (slots_at index slots.now)) more end notes.new.least) }
-    ensures within { IfSome result (λ end. end ≤ length body.now) }
+    requires fits { W.fits values.now slots.table.nodes.now slots.table.octets.now }
+    requires row { IsRow slots.table.octets.now (slots_at row.index slots.links.now) (seven row.marks) row.steps.now row.first }
+    ensures end { IfSome result (λ end. RowLeads slots.entry row.entry.index row.entry.marks start.entry end notes.new.least) }
+    ensures within { IfSome result (λ end. end ≤ length start.entry.body.now) }
     ensures falls { IsTrue notes.new.least → IsTrue notes.old.least }
 {
-    let mut here = at;
-    let mut place = first as usize;
+    let body = start.body;
+    let steps = row.steps;
+    let mut here = start.at;
+    let mut place = row.first as usize;
     while place < steps.len() {
         let step = steps[place];
         if step.skip as usize > body.len() - here as usize {
@@ -58,64 +55,59 @@ fn walk_row<W: ValueWalk>(
         if step.link == 0 {
             return Some(here);
         }
-        here = values.walk_value(nodes, octets, step.link, body, here, notes)?;
+        here = values.walk_value(slots.table, step.link, Start { body, at: here }, notes)?;
         place += 1;
     }
     None
 }
 
-/// The octet after the values of the marked slots, by the rows of the presence octets, which begin at octet `field`. None says
-/// nothing.
+/// The octet after the values of the slots that a presence field marks, by the rows of its octets. None says nothing.
 #[inline(always)]
 fn walk_rows<W: ValueWalk>(
     values: &W,
-    nodes: &[Node],
-    octets: &[u32],
+    slots: Slots<'_>,
     rows: Rows<'_>,
-    slots: &[u32],
-    field: u32,
-    count: u32,
-    body: &[u8],
+    field: Field<'_>,
     notes: &mut Notes,
 ) -> Option<u32>
-    requires table { IsTable nodes.now }
-    requires octets { octets.now ≡ map octets_of nodes.now }
-    requires fits { W.fits values.now nodes.now octets.now }
-    requires slots { AreSlots nodes.now slots.now }
-    requires rows { AreRows octets.now slots.now rows.start.now rows.steps.now }
-    requires count { 128 * count ≤ length rows.start.now }
-    requires field { field + count ≤ length body.now }
-    requires body { length body.now ≤ longest_body }
-    ensures rows { IfSome result (λ end. HaveRows octets.now slots.now body.now field count) }
-    ensures end { IfSome result (λ end. (more : List ℕ) → SlotsLead nodes.now body.now 1 slots.now (marks_of (take count (drop field body.now)) ++ more) (field + count) (7 * count + 1) (slots_at count slots.now) more end notes.new.least) }
+    requires fits { W.fits values.now slots.table.nodes.now slots.table.octets.now }
+    requires rows { AreRows slots.table.octets.now slots.links.now rows.start.now rows.steps.now }
+    requires count { 128 * field.octets ≤ length rows.start.now }
+    ensures rows { IfSome result (λ end. FieldHasRows slots.entry field.entry) }
+    ensures end { IfSome result (λ end. RowsLead slots.entry field.entry end notes.new.least) }
     ensures falls { IsTrue notes.new.least → IsTrue notes.old.least }
 {
-    let mut here = field + count;
-    for index in 0..count {
-        let marks = body[(field + index) as usize] >> 1;
+    let body = field.start.body;
+    let at = field.start.at;
+    let mut here = at + field.octets;
+    for index in 0..field.octets {
+        let marks = body[(at + index) as usize] >> 1;
         let first = rows.start[128 * index as usize + marks as usize];
         if first == NO_ROW {
             return None;
         }
-        here = walk_row(
-            values, nodes, octets, rows.steps, first, slots, index, marks, body, here, notes,
-        )?;
+        let row = Row {
+            steps: rows.steps,
+            first,
+            index,
+            marks,
+        };
+        here = walk_row(values, slots, row, Start { body, at: here }, notes)?;
     }
     Some(here)
 }
 
-/// The octets of the presence field that begins at octet `at`, where it has no more than so many slots need. None says nothing.
+/// The octets of the presence field at the start, where it has no more than so many slots need. None says nothing.
 #[inline(always)]
-pub(crate) fn field_octets(body: &[u8], at: u32, slots: u32) -> Option<u32>
-    requires body { length body.now ≤ longest_body }
-    requires at { at ≤ length body.now }
-    requires slots { slots ≤ 126 }
-    ensures field { IfSome result (λ count. IsField body.now at count) }
+pub(crate) fn field_octets(start: Start<'_>, slots: u32) -> Option<u32>
+    requires { slots ≤ 126 }
+    ensures field { IfSome result (λ count. IsField start.entry.body.now start.entry.at count) }
     ensures few { IfSome result (λ count. count ≤ octets_needed slots) }
 {
+    let body = start.body;
     let mut index = 0;
     while 7 * index < slots {
-        let place = (at + index) as usize;
+        let place = (start.at + index) as usize;
         if place >= body.len() {
             return None;
         }
@@ -131,30 +123,20 @@ pub(crate) fn field_octets(body: &[u8], at: u32, slots: u32) -> Option<u32>
 #[inline(always)]
 pub(crate) fn walk_by_rows<W: ValueWalk>(
     values: &W,
-    nodes: &[Node],
-    octets: &[u32],
-    mask: &SlotMask,
+    slots: Slots<'_>,
     rows: Rows<'_>,
-    slots: &[u32],
-    body: &[u8],
-    at: u32,
+    start: Start<'_>,
     notes: &mut Notes,
 ) -> Option<u32>
-    requires table { IsTable nodes.now }
-    requires octets { octets.now ≡ map octets_of nodes.now }
-    requires fits { W.fits values.now nodes.now octets.now }
-    requires links { SlotLinksWithin (length nodes.now) slots.now }
-    requires mask { IsMaskOf (linked_slots (meanings nodes.now) slots.now) mask.now }
-    requires bounds { InBounds (record_kind_at nodes.now slots.now) }
-    requires rows { AreRows octets.now slots.now rows.start.now rows.steps.now }
-    requires body { length body.now ≤ longest_body }
-    requires at { at ≤ length body.now }
-    ensures end { IfSome result (λ end. WalksKind (record_kind_at nodes.now slots.now) body.now at end notes.new.least) }
+    requires fits { W.fits values.now slots.table.nodes.now slots.table.octets.now }
+    requires rows { AreRows slots.table.octets.now slots.links.now rows.start.now rows.steps.now }
+    ensures end { IfSome result (λ end. WalksFrom (slots_kind slots.entry) start.entry end notes.new.least) }
     ensures falls { IsTrue notes.new.least → IsTrue notes.old.least }
 {
-    let count = field_octets(body, at, mask.count)?;
-    note_field(body, at, at + count, notes);
-    walk_rows(values, nodes, octets, rows, slots, at, count, body, notes)
+    are_octets(start.body);
+    let octets = field_octets(start, slots.mask.count)?;
+    note_field(start.body, start.at, start.at + octets, notes);
+    walk_rows(values, slots, rows, Field { start, octets }, notes)
 }
 
 /// The octet after the items of the record whose presence field begins at octet `at`, by their rows; notes tell of the presence
@@ -164,21 +146,12 @@ pub fn items_by_rows(codec: &Codec, body: &[u8], at: u32, notes: &mut Notes) -> 
     requires at { at ≤ length body.now }
     ensures { IfSome result (λ end. WalksItems codec.now body.now at end notes.new.least) }
 {
-    let slots = codec.slots.as_slice();
-    let rows = codec.nodes.rows_for(slots)?;
-    let count = field_octets(body, at, codec.mask.count)?;
+    let slots = Slots::of(codec);
+    let rows = codec.nodes.rows_for(slots.links)?;
+    let start = Start { body, at };
+    let octets = field_octets(start, codec.mask.count)?;
     let values = ByRows {
         compounds: codec.nodes.compound_rows(),
     };
-    walk_rows(
-        &values,
-        codec.nodes.as_slice(),
-        codec.nodes.octets(),
-        rows,
-        slots,
-        at,
-        count,
-        body,
-        notes,
-    )
+    walk_rows(&values, slots, rows, Field { start, octets }, notes)
 }

@@ -1,15 +1,14 @@
 //! The next occurrence of a counted, wide or by-FX item.
-ghost use Rattle.std.specs.Prelude.{◌≡◌, ◌≢◌, ◌<◌, ◌≤◌, true, false, [], length, drop, Some};
+ghost use Rattle.std.specs.Prelude.{◌≡◌, ◌≢◌, ◌<◌, ◌≤◌, [], length, Some};
 ghost use Rattle.std.specs.Iterator.{YieldsFirstBy, item_count};
 ghost use Rattle.ax_format.specs.InBounds.{InBounds};
-ghost use Rattle.ax_format.specs.Tree.{counted, by_fx};
-ghost use Rattle.ax_format.specs.Widths.{counter_octets};
-ghost use Rattle.ax_codec.specs.Meaning.{meanings, linked, fixed_of};
+ghost use Rattle.ax_format.specs.Tree.{counted};
 ghost use Rattle.ax_codec.specs.Table.{kind_at};
 ghost use Rattle.ax_walk.specs.Left.{occurrence_shown, occurrences_left};
+ghost use Rattle.ax_walk.specs.Marked.{AreByFx, AreCounted};
 ghost use Rattle.ax_walk.specs.Pieces.{first_size};
-ghost use Rattle.ax_walk.specs.Shown.{AreOccurrences, occurrences_in};
-ghost use Rattle.ax_walk.specs.Values.{IsOne, ItemInBounds, value_in};
+ghost use Rattle.ax_walk.specs.Values.{IsOne, ItemInBounds};
+ghost use Rattle.ax_walk.specs.Walking.{fx_kind};
 
 use crate::finding::walk_of;
 use crate::item::ItemView;
@@ -32,7 +31,7 @@ impl<'c, 'a> Occurrences<'c, 'a> {
         requires link { (0 < inner) × (inner ≤ length codec.now.nodes) }
         requires bounds { InBounds (kind_at codec.now.nodes inner) }
         requires one { IsOne (counted size (kind_at codec.now.nodes inner)) body.now }
-        ensures { AreOccurrences codec.now inner false (drop (counter_octets size) body.now) (occurrences_in (value_in (counted size (kind_at codec.now.nodes inner)) body.now)) (occurrences_left result) }
+        ensures { AreCounted codec.now size inner body.now (occurrences_left result) }
     {
         let Some(count) = count_at(body, 0, size) else {
             return Occurrences::none(codec, inner, false);
@@ -49,9 +48,9 @@ impl<'c, 'a> Occurrences<'c, 'a> {
     /// The occurrences of an item by FX.
     pub(crate) fn by_fx(codec: &'c Codec, inner: u32, body: &'a [u8]) -> Occurrences<'c, 'a>
         requires link { (0 < inner) × (inner ≤ length codec.now.nodes) }
-        requires bounds { InBounds (by_fx (fixed_of (linked (meanings codec.now.nodes) inner))) }
-        requires one { IsOne (by_fx (fixed_of (linked (meanings codec.now.nodes) inner))) body.now }
-        ensures { AreOccurrences codec.now inner true body.now (occurrences_in (value_in (by_fx (fixed_of (linked (meanings codec.now.nodes) inner))) body.now)) (occurrences_left result) }
+        requires bounds { InBounds (fx_kind codec.now.nodes inner) }
+        requires one { IsOne (fx_kind codec.now.nodes inner) body.now }
+        ensures { AreByFx codec.now inner body.now (occurrences_left result) }
     {
         let size = (fixed_width(codec.nodes.as_slice(), inner) + 1) / 8;
         Occurrences {

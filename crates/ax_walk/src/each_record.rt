@@ -14,6 +14,7 @@ use crate::notes::Notes;
 use crate::octets::walk_with;
 use crate::record::RecordView;
 use crate::records::Records;
+use crate::start::Start;
 use crate::windows::octets_from;
 use ax_codec::Codec;
 use ax_rows::Rows;
@@ -70,7 +71,7 @@ pub fn record_by_rows<'c, 'a>(
     ensures least { IfSome result (λ r. IsLeastRecord codec.now r.0.body.now notes.new.least) }
     ensures fault { IfNone result (FailsAt (kind_read (record_kind_at codec.now.nodes codec.now.slots) body.now at) at notes.new.fault) }
 {
-    let Some(end) = walk_with(codec, rows, body, at, notes) else {
+    let Some(end) = walk_with(codec, rows, Start { body, at }, notes) else {
         return None;
     };
     let record = RecordView {

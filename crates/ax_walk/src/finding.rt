@@ -3,26 +3,27 @@ ghost use Rattle.std.specs.Prelude.{◌≡◌, ◌+◌, ◌-◌, ◌*◌, ◌/�
 ghost use Rattle.ax_bits.specs.Bits.{AreBits};
 ghost use Rattle.ax_fspec.specs.Marks.{seven};
 ghost use Rattle.ax_fspec.specs.declared.mask.SlotMask.{SlotMask};
-ghost use Rattle.ax_format.specs.Canonical.{canon};
-ghost use Rattle.ax_format.specs.InBounds.{InBounds, SlotsInBounds};
-ghost use Rattle.ax_format.specs.Presence.{NoneUndefined, octets_needed};
+ghost use Rattle.ax_format.specs.InBounds.{InBounds};
+ghost use Rattle.ax_format.specs.Presence.{octets_needed};
 ghost use Rattle.ax_format.specs.Sizes.{longest_body};
-ghost use Rattle.ax_format.specs.Tree as Tree;
 ghost use Rattle.ax_codec.specs.Meaning.{meanings, linked_slots};
-ghost use Rattle.ax_codec.specs.Table.{IsTable, SlotLinksWithin, kind_at, record_kind_at};
-ghost use Rattle.ax_fspec.specs.Reading.{FailsAt, IsMaskOf, kind_read, entries_at};
+ghost use Rattle.ax_codec.specs.Table.{SlotLinksWithin, kind_at, record_kind_at};
+ghost use Rattle.ax_fspec.specs.Reading.{IsMaskOf};
 ghost use Rattle.ax_format.specs.At.{slot_value, number_at};
-ghost use Rattle.ax_walk.specs.InPlace.{EndsField, FollowsEntries, StandsInPlace};
+ghost use Rattle.ax_walk.specs.InPlace.{EndsField, StandsInPlace};
+ghost use Rattle.ax_walk.specs.Marked.{FollowsFound, MarksDefined, entries_from};
 ghost use Rattle.ax_walk.specs.Placing.{IsMarkedItem};
-ghost use Rattle.ax_walk.specs.Rows.{IsField};
+ghost use Rattle.ax_walk.specs.Rows.{AreSlots, IsField};
 ghost use Rattle.ax_walk.specs.Shown.{item_value, IsOfSlot};
 ghost use Rattle.ax_walk.specs.Values.{IsGot, IsOne, entries_found, value_in, entries_in, SpellsAny};
-ghost use Rattle.ax_walk.specs.Walking.{Walks, WalksKind};
+ghost use Rattle.ax_walk.specs.Walking.{WalksKind, FailsKind};
 
 use crate::by_rows::field_octets;
 use crate::item::ItemView;
 use crate::notes::Notes;
 use crate::octets::{octets_end, walk_node};
+use crate::start::Start;
+use crate::table::Table;
 use ax_codec::Codec;
 use ax_fspec::{Presence, SlotMask, read_presence};
 
@@ -48,13 +49,13 @@ pub(crate) fn find<'c, 'a>(
     ensures window { IfSome result (λ item. StandsInPlace codec.now.nodes slots.now slot body.now item.body.now) }
 {
     if slot <= EARLY {
-        if let Some(at) = field_octets(body, 0, mask.count) {
+        if let Some(at) = field_octets(Start { body, at: 0 }, mask.count) {
             return find_early(codec, slots, body, at, slot);
         }
     }
     let mut marked = Presence::empty();
     match read_presence(mask, body, 0, &mut marked) {
-        Ok(here) => find_marked(codec, slots, marked, body, here, slot),
+        Ok(here) => find_marked(codec, slots, marked, Start { body, at: here }, slot),
         Err(_) => None,
     }
 }
@@ -127,7 +128,8 @@ pub fn marked_item<'c, 'a>(
     ensures item { IsMarkedItem codec.now marked body.now at slot result }
     ensures place { IfSome result (IsOfSlot codec.now codec.now.slots slot) }
 {
-    find_marked(codec, codec.slots.as_slice(), marked, body, at, slot)
+    let start = Start { body, at };
+    find_marked(codec, codec.slots.as_slice(), marked, start, slot)
 }
 
 /// The same in the octets after the presence field of a value of these slots.
@@ -136,25 +138,22 @@ fn find_marked<'c, 'a>(
     codec: &'c Codec,
     slots: &[u32],
     marked: Presence,
-    body: &'a [u8],
-    at: u32,
+    start: Start<'a>,
     slot: u32,
 ) -> Option<ItemView<'c, 'a>>
-    requires links { SlotLinksWithin (length codec.now.nodes) slots.now }
-    requires bounds { SlotsInBounds (Tree.slots_of (linked_slots (meanings codec.now.nodes) slots.now)) }
+    requires slots { AreSlots codec.now.nodes slots.now }
     requires marks { AreBits marked }
-    requires clear { NoneUndefined (Tree.defined_slots (Tree.slots_of (linked_slots (meanings codec.now.nodes) slots.now))) marked }
-    requires body { length body.now ≤ longest_body }
-    requires at { at ≤ length body.now }
-    ensures value { IsGot (entries_at (Tree.slots_of (linked_slots (meanings codec.now.nodes) slots.now)) marked body.now at)
-        → option_map item_value result ≡ slot_value slot (entries_found (entries_at (Tree.slots_of (linked_slots (meanings codec.now.nodes) slots.now)) marked body.now at)) }
+    requires clear { MarksDefined codec.now.nodes slots.now marked }
+    ensures value { IsGot (entries_from codec.now.nodes slots.now marked start.entry)
+        → option_map item_value result ≡ slot_value slot (entries_found (entries_from codec.now.nodes slots.now marked start.entry)) }
     ensures place { IfSome result (IsOfSlot codec.now slots.now slot) }
-    ensures window { IsGot (entries_at (Tree.slots_of (linked_slots (meanings codec.now.nodes) slots.now)) marked body.now at)
-        → IfSome result (λ item. FollowsEntries codec.now.nodes slots.now slot (entries_found (entries_at (Tree.slots_of (linked_slots (meanings codec.now.nodes) slots.now)) marked body.now at)) body.now at item.body.now) }
+    ensures window { IsGot (entries_from codec.now.nodes slots.now marked start.entry)
+        → IfSome result (λ item. FollowsFound codec.now.nodes slots.now marked start.entry slot item.body.now) }
 {
+    let body = start.body;
     let mut notes = Notes::new();
     let mut left = marked;
-    let mut here = at;
+    let mut here = start.at;
     while let Some(next) = left.take_first() {
         let link = slots[next as usize - 1];
         let end = walk_of(codec, link, body, here, &mut notes)?;
@@ -180,9 +179,9 @@ fn walk_apart(codec: &Codec, link: u32, body: &[u8], at: u32, notes: &mut Notes)
     requires body { length body.now ≤ longest_body }
     requires at { at ≤ length body.now }
     ensures end { IfSome result (λ end. WalksKind (kind_at codec.now.nodes link) body.now at end notes.new.least) }
-    ensures fault { IfNone result (FailsAt (kind_read (kind_at codec.now.nodes link) body.now at) at notes.new.fault) }
+    ensures fault { IfNone result (FailsKind (kind_at codec.now.nodes link) body.now at notes.new.fault) }
 {
-    walk_node(codec.nodes.as_slice(), link, body, at, notes)
+    walk_node(codec.nodes.as_slice(), link, Start { body, at }, notes)
 }
 
 /// The same as `walk`, by a codec's nodes: over an item of fixed octets without a call.
@@ -198,11 +197,10 @@ pub(crate) fn walk_of(
     requires bounds { InBounds (kind_at codec.now.nodes link) }
     requires body { length body.now ≤ longest_body }
     requires at { at ≤ length body.now }
-    ensures end { IfSome result (λ end. Walks (canon (kind_at codec.now.nodes link)) (kind_read (kind_at codec.now.nodes link) body.now at) body.now at end notes.new.least) }
-    ensures fault { IfNone result (FailsAt (kind_read (kind_at codec.now.nodes link) body.now at) at notes.new.fault) }
+    ensures end { IfSome result (λ end. WalksKind (kind_at codec.now.nodes link) body.now at end notes.new.least) }
+    ensures fault { IfNone result (FailsKind (kind_at codec.now.nodes link) body.now at notes.new.fault) }
 {
-    let octets = codec.nodes.octets();
-    if let Some(end) = octets_end(codec.nodes.as_slice(), octets, link, body, at) {
+    if let Some(end) = octets_end(Table::of(codec), link, Start { body, at }) {
         return Some(end);
     }
     walk_apart(codec, link, body, at, notes)

@@ -2,7 +2,8 @@
 ghost use Rattle.std.specs.Prelude.{◌≡◌, ◌∷◌, is_some, option_map, IfSome};
 ghost use Rattle.ax_format.specs.At.{slot_value, value_at, is_present, At};
 ghost use Rattle.ax_format.specs.Tree.{marked};
-ghost use Rattle.ax_walk.specs.Placing.{HoldsValue, IsPlaced, placed_entries, window_value};
+ghost use Rattle.ax_walk.specs.Marked.{placed_value};
+ghost use Rattle.ax_walk.specs.Placing.{HoldsValue, IsPlaced, placed_entries};
 ghost use Rattle.ax_walk.specs.Shown.{item_value, IsOfSlot};
 ghost use Rattle.ax_walk.specs.Spots.{IsSpot};
 
@@ -25,7 +26,7 @@ impl<'v, 'c, 'a> PlacedSlots<'v, 'c, 'a> {
     #[inline(always)]
     pub fn place(&self, slot: u32) -> Option<Window>
         requires placed { IsPlaced self.now }
-        ensures value { option_map (window_value self.now.codec.now.nodes self.now.slots.now self.now.body.now slot) result ≡ slot_value slot (placed_entries self.now) }
+        ensures value { option_map (placed_value self.now slot) result ≡ slot_value slot (placed_entries self.now) }
         ensures there { IfSome result (HoldsValue self.now.codec.now.nodes self.now.slots.now self.now.body.now slot) }
     {
         if !self.places.marked.has(slot) {

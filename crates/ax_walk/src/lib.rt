@@ -21,6 +21,8 @@ mod placing;
 mod record;
 mod records;
 mod spot;
+mod start;
+mod table;
 mod units;
 mod value_walk;
 mod view;

@@ -12,6 +12,7 @@ ghost use Rattle.ax_walk.specs.Spots.{FindsMember, FindsNone, FindsPart, FindsNo
 ghost use Rattle.ax_walk.specs.Values.{IsOne};
 
 use crate::notes::Notes;
+use crate::start::Start;
 use crate::units::{fixed_width, is_last_part, part_width, run};
 use ax_codec::Node;
 use ax_format::LastPart;
@@ -81,7 +82,8 @@ pub(crate) fn find_part(
     let mut number = index;
     while let Some((part, later)) = left.split_first() {
         let fx = last.fx_width(later.len());
-        let Some(end) = run(body, here, part_width(nodes, *part) + fx, &mut notes) else {
+        let start = Start { body, at: here };
+        let Some(end) = run(start, part_width(nodes, *part) + fx, &mut notes) else {
             return None;
         };
         if number == 0 {

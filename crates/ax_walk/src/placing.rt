@@ -1,25 +1,23 @@
 //! Walks that tell where the values of marked slots stand.
-ghost use Rattle.std.specs.Prelude.{◌≡◌, ℕ, ◌-◌, ◌≤◌, List, length, map, get_or, IfSome, IfNone};
+ghost use Rattle.std.specs.Prelude.{◌≡◌, ℕ, ◌-◌, ◌≤◌, List, length, get_or, IfSome, IfNone};
 ghost use Rattle.ax_bits.specs.Bits.{AreBits};
 ghost use Rattle.ax_fspec.specs.declared.mask.SlotMask.{SlotMask};
-ghost use Rattle.ax_format.specs.InBounds.{InBounds, SlotsInBounds};
-ghost use Rattle.ax_format.specs.Presence.{NoneUndefined};
 ghost use Rattle.ax_format.specs.Sizes.{longest_body};
-ghost use Rattle.ax_format.specs.Tree as Tree;
-ghost use Rattle.ax_fspec.specs.Reading.{FailsAt, IsMaskOf, kind_read, entries_at};
-ghost use Rattle.ax_codec.specs.Meaning.{meanings, linked_slots};
 ghost use Rattle.ax_codec.specs.NodeRows.{EachRows};
-ghost use Rattle.ax_codec.specs.Octets.{octets_of};
-ghost use Rattle.ax_codec.specs.Table.{IsTable, SlotLinksWithin, record_kind_at};
+ghost use Rattle.ax_codec.specs.Table.{record_kind_at};
 ghost use Rattle.ax_codec.specs.declared.node.Node.TheVariants as Of;
-ghost use Rattle.ax_walk.specs.Placing.{PlacesEntries, PlacesKind};
+ghost use Rattle.ax_walk.specs.Marked.{MarksDefined, FailsMarked, PlacesMarked, slots_kind};
+ghost use Rattle.ax_walk.specs.Placing.{PlacesKind};
+ghost use Rattle.ax_walk.specs.Walking.{FailsKind, FailsFrom};
 
 use crate::compound_rows::walk_record_item;
 use crate::item::ItemView;
 use crate::notes::Notes;
 use crate::places::{Places, Window};
+use crate::start::{Start, are_octets};
+use crate::table::{Slots, Table};
 use ax_codec::{Codec, Node};
-use ax_fspec::{Presence, SlotMask, read_presence};
+use ax_fspec::{Presence, read_presence};
 use ax_rows::SlotRows;
 
 /// The octet after the record that begins at octet `at`, and where its items stand.
@@ -34,16 +32,13 @@ pub fn place_record(
     requires body { length body.now ≤ longest_body }
     requires at { at ≤ length body.now }
     ensures end { IfSome result (PlacesKind codec.now.nodes codec.now.slots body.now at places.new) }
-    ensures fault { IfNone result (FailsAt (kind_read (record_kind_at codec.now.nodes codec.now.slots) body.now at) at notes.new.fault) }
+    ensures fault { IfNone result (FailsKind (record_kind_at codec.now.nodes codec.now.slots) body.now at notes.new.fault) }
 {
+    let compounds = codec.nodes.compound_rows();
     place_slots(
-        codec.nodes.as_slice(),
-        codec.nodes.octets(),
-        codec.nodes.compound_rows(),
-        &codec.mask,
-        codec.slots.as_slice(),
-        body,
-        at,
+        Slots::of(codec),
+        compounds,
+        Start { body, at },
         notes,
         places,
     )
@@ -52,42 +47,23 @@ pub fn place_record(
 /// The octet after a record, or a compound, of these slots, and where their values stand.
 #[inline]
 fn place_slots(
-    nodes: &[Node],
-    octets: &[u32],
+    slots: Slots<'_>,
     compounds: &[SlotRows],
-    mask: &SlotMask,
-    slots: &[u32],
-    body: &[u8],
-    at: u32,
+    start: Start<'_>,
     notes: &mut Notes,
     places: &mut Places,
 ) -> Option<u32>
-    requires table { IsTable nodes.now }
-    requires octets { octets.now ≡ map octets_of nodes.now }
-    requires compounds { EachRows octets.now nodes.now compounds.now }
-    requires links { SlotLinksWithin (length nodes.now) slots.now }
-    requires mask { IsMaskOf (linked_slots (meanings nodes.now) slots.now) mask.now }
-    requires bounds { InBounds (record_kind_at nodes.now slots.now) }
-    requires body { length body.now ≤ longest_body }
-    requires at { at ≤ length body.now }
-    ensures end { IfSome result (PlacesKind nodes.now slots.now body.now at places.new) }
-    ensures fault { IfNone result (FailsAt (kind_read (record_kind_at nodes.now slots.now) body.now at) at notes.new.fault) }
+    requires { EachRows slots.table.octets.now slots.table.nodes.now compounds.now }
+    ensures end { IfSome result (PlacesKind slots.entry.table.nodes.now slots.entry.links.now start.entry.body.now start.entry.at places.new) }
+    ensures fault { IfNone result (FailsFrom (slots_kind slots.entry) start.entry notes.new.fault) }
 {
+    let body = start.body;
+    are_octets(body);
     let mut marked = Presence::empty();
-    match read_presence(mask, body, at, &mut marked) {
+    match read_presence(slots.mask, body, start.at, &mut marked) {
         Ok(here) => {
             places.marked = marked;
-            place_items(
-                nodes,
-                octets,
-                compounds,
-                slots,
-                marked,
-                body,
-                here,
-                notes,
-                &mut places.windows,
-            )
+            place_items(slots, compounds, Start { body, at: here }, notes, places)
         }
         Err(fault) => {
             notes.fault = fault;
@@ -96,40 +72,31 @@ fn place_slots(
     }
 }
 
-/// The octet after the values of the marked slots, of which the first begins at octet `at`, and where each stands.
+/// The octet after the values of the marked slots, of which the first begins at the start, and where each stands.
 #[inline]
 fn place_items(
-    nodes: &[Node],
-    octets: &[u32],
+    slots: Slots<'_>,
     compounds: &[SlotRows],
-    slots: &[u32],
-    marked: Presence,
-    body: &[u8],
-    at: u32,
+    start: Start<'_>,
     notes: &mut Notes,
-    windows: &mut [Window],
+    places: &mut Places,
 ) -> Option<u32>
-    requires table { IsTable nodes.now }
-    requires octets { octets.now ≡ map octets_of nodes.now }
-    requires compounds { EachRows octets.now nodes.now compounds.now }
-    requires links { SlotLinksWithin (length nodes.now) slots.now }
-    requires bounds { SlotsInBounds (Tree.slots_of (linked_slots (meanings nodes.now) slots.now)) }
-    requires marks { AreBits marked }
-    requires clear { NoneUndefined (Tree.defined_slots (Tree.slots_of (linked_slots (meanings nodes.now) slots.now))) marked }
-    requires body { length body.now ≤ longest_body }
-    requires at { at ≤ length body.now }
-    requires windows { length windows.old ≡ 127 }
-    ensures end { IfSome result (PlacesEntries nodes.now slots.now marked body.now at windows.new) }
-    ensures fault { IfNone result (FailsAt (entries_at (Tree.slots_of (linked_slots (meanings nodes.now) slots.now)) marked body.now at) at notes.new.fault) }
-    ensures windows { length windows.new ≡ 127 }
+    requires compounds { EachRows slots.table.octets.now slots.table.nodes.now compounds.now }
+    requires marks { AreBits places.old.marked }
+    requires clear { MarksDefined slots.table.nodes.now slots.links.now places.old.marked }
+    ensures end { IfSome result (PlacesMarked slots.entry start.entry places.new) }
+    ensures fault { IfNone result (FailsMarked slots.entry.table.nodes.now slots.entry.links.now places.old.marked start.entry notes.new.fault) }
+    ensures marked { places.new.marked ≡ places.old.marked }
 {
-    let mut left = marked;
-    let mut here = at;
+    let body = start.body;
+    let mut left = places.marked;
+    let mut here = start.at;
     while let Some(slot) = left.take_first() {
         notes.least = true;
-        let link = slots[slot as usize - 1];
-        let end = walk_record_item(nodes, octets, compounds, link, body, here, notes)?;
-        windows[slot as usize] = Window {
+        let link = slots.links[slot as usize - 1];
+        let item = Start { body, at: here };
+        let end = walk_record_item(slots.table, compounds, link, item, notes)?;
+        places.windows[slot as usize] = Window {
             start: here,
             end,
             least: notes.least,
@@ -146,16 +113,14 @@ pub fn place_subitems(item: &ItemView<'_, '_>, places: &mut Places)
 {
     if let Node::Compound { mask, slots } = item.node() {
         let mut notes = Notes::new();
-        let _end = place_slots(
-            item.codec.nodes.as_slice(),
-            item.codec.nodes.octets(),
-            item.codec.nodes.compound_rows(),
-            mask,
-            slots.as_slice(),
-            item.body,
-            0,
-            &mut notes,
-            places,
-        );
+        let table = Table::of(item.codec);
+        let links = slots.as_slice();
+        let compounds = item.codec.nodes.compound_rows();
+        let subitems = Slots { table, mask, links };
+        let start = Start {
+            body: item.body,
+            at: 0,
+        };
+        let _end = place_slots(subitems, compounds, start, &mut notes, places);
     }
 }

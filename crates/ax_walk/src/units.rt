@@ -1,37 +1,32 @@
 //! Units of a known length: fixed kinds, parts, occurrences by FX, explicit contents.
 ghost use Rattle.std.specs.Prelude.{◌≡◌, ◌⊎◌, ◌↔◌, ◌+◌, ◌-◌, ◌*◌, ◌%◌, ◌<◌, ◌≤◌, length, get_or, Bool, IfSome, IfNone, IsTrue};
-ghost use Rattle.ax_format.specs.Canonical.{canon};
 ghost use Rattle.ax_format.specs.InBounds.{InBounds};
-ghost use Rattle.ax_format.specs.Sizes.{longest_body};
 ghost use Rattle.ax_format.specs.Tree as Tree;
 ghost use Rattle.ax_format.specs.Widths.{width, members_width};
 ghost use Rattle.ax_format.specs.declared.fault.BodyCause.TheVariants as Cause;
-ghost use Rattle.ax_codec.specs.Meaning.{meanings, linked, fixed_of, part_of, linked_parts};
-ghost use Rattle.ax_codec.specs.Table.{IsTable, LinksWithin, kind_at};
-ghost use Rattle.ax_fspec.specs.Reading.{FailsAt, kind_read};
-ghost use Rattle.ax_walk.specs.Walking.{Walks};
+ghost use Rattle.ax_codec.specs.Meaning.{meanings, linked, fixed_of, part_of};
+ghost use Rattle.ax_codec.specs.Table.{IsTable, LinksWithin};
+ghost use Rattle.ax_walk.specs.Walking.{WalksFrom, FailsFrom, parts_kind, fx_kind};
 
 use crate::notes::{Notes, fail};
+use crate::start::Start;
 use ax_codec::Node;
 use ax_format::{BodyCause, LastPart};
 use ax_fspec::{ends_with_fx, run_end};
 use ax_values::explicit_content;
 
-/// The octet after a unit of `width` bits, whole octets, that begins at octet `at`. None comes exactly where the body ends
-/// before it, and that is noted.
+/// The octet after a unit of `width` bits, whole octets. None comes exactly where the body ends before it, and that is noted.
 #[inline(always)]
-pub(crate) fn run(body: &[u8], at: u32, width: u32, notes: &mut Notes) -> Option<u32>
-    requires width { (width % 8 ≡ 0) × (width ≤ 524264) }
-    requires body { length body.now ≤ longest_body }
-    requires at { at ≤ length body.now }
-    ensures end { IfSome result (λ end. (at ≤ end) × (end ≤ length body.now) × (width ≡ 8 * (end - at))) }
-    ensures short { IfNone result (8 * (length body.now - at) < width) }
-    ensures fault { IfNone result (notes.new.fault ≡ record { cause = Cause.RunsOut; bit = 8 * at }) }
+pub(crate) fn run(start: Start<'_>, width: u32, notes: &mut Notes) -> Option<u32>
+    requires { (width % 8 ≡ 0) × (width ≤ 524264) }
+    ensures end { IfSome result (λ end. (start.entry.at ≤ end) × (end ≤ length start.entry.body.now) × (width ≡ 8 * (end - start.entry.at))) }
+    ensures short { IfNone result (8 * (length start.entry.body.now - start.entry.at) < width) }
+    ensures fault { IfNone result (notes.new.fault ≡ record { cause = Cause.RunsOut; bit = 8 * start.entry.at }) }
     ensures least { notes.new.least ≡ notes.old.least }
 {
-    let end = run_end(body, at, width);
+    let end = run_end(start.body, start.at, width);
     if end.is_none() {
-        fail(notes, BodyCause::RunsOut, 8 * at);
+        fail(notes, BodyCause::RunsOut, 8 * start.at);
     }
     end
 }
@@ -74,22 +69,19 @@ pub(crate) fn first_part_end(
     nodes: &[Node],
     last: LastPart,
     parts: &[u32],
-    body: &[u8],
-    at: u32,
+    start: Start<'_>,
 ) -> Option<u32>
     requires table { IsTable nodes.now }
     requires links { LinksWithin (length nodes.now) parts.now }
-    requires bounds { InBounds (Tree.extended last (linked_parts (meanings nodes.now) parts.now)) }
-    requires body { length body.now ≤ longest_body }
-    requires at { at ≤ length body.now }
-    ensures { IfSome result (λ end. (least : Bool) → Walks (canon (Tree.extended last (linked_parts (meanings nodes.now) parts.now))) (kind_read (Tree.extended last (linked_parts (meanings nodes.now) parts.now)) body.now at) body.now at end least) }
+    requires bounds { InBounds (parts_kind nodes.now last parts.now) }
+    ensures { IfSome result (λ end. (least : Bool) → WalksFrom (parts_kind nodes.now last parts.now) start.entry end least) }
 {
     let Some((part, later)) = parts.split_first() else {
         return None;
     };
     let fx = last.fx_width(later.len());
-    let end = run_end(body, at, part_width(nodes, *part) + fx)?;
-    if is_last_part(body, end, fx) {
+    let end = run_end(start.body, start.at, part_width(nodes, *part) + fx)?;
+    if is_last_part(start.body, end, fx) {
         Some(end)
     } else {
         None
@@ -101,24 +93,26 @@ pub(crate) fn walk_parts(
     nodes: &[Node],
     last: LastPart,
     parts: &[u32],
-    body: &[u8],
-    at: u32,
+    start: Start<'_>,
     notes: &mut Notes,
 ) -> Option<u32>
     requires table { IsTable nodes.now }
     requires links { LinksWithin (length nodes.now) parts.now }
-    requires bounds { InBounds (Tree.extended last (linked_parts (meanings nodes.now) parts.now)) }
-    requires body { length body.now ≤ longest_body }
-    requires at { at ≤ length body.now }
-    ensures end { IfSome result (λ end. Walks (canon (Tree.extended last (linked_parts (meanings nodes.now) parts.now))) (kind_read (Tree.extended last (linked_parts (meanings nodes.now) parts.now)) body.now at) body.now at end notes.new.least) }
-    ensures fault { IfNone result (FailsAt (kind_read (Tree.extended last (linked_parts (meanings nodes.now) parts.now)) body.now at) at notes.new.fault) }
+    requires bounds { InBounds (parts_kind nodes.now last parts.now) }
+    ensures end { IfSome result (λ end. WalksFrom (parts_kind nodes.now last parts.now) start.entry end notes.new.least) }
+    ensures fault { IfNone result (FailsFrom (parts_kind nodes.now last parts.now) start.entry notes.new.fault) }
     ensures least { notes.new.least ≡ notes.old.least }
 {
+    let body = start.body;
     let mut left = parts;
-    let mut here = at;
+    let mut here = start.at;
     while let Some((part, later)) = left.split_first() {
         let fx = last.fx_width(later.len());
-        let end = run(body, here, part_width(nodes, *part) + fx, notes)?;
+        let end = run(
+            Start { body, at: here },
+            part_width(nodes, *part) + fx,
+            notes,
+        )?;
         if is_last_part(body, end, fx) {
             return Some(end);
         }
@@ -136,23 +130,21 @@ pub(crate) fn walk_parts(
 pub(crate) fn walk_run(
     nodes: &[Node],
     inner: u32,
-    body: &[u8],
-    at: u32,
+    start: Start<'_>,
     notes: &mut Notes,
 ) -> Option<u32>
     requires table { IsTable nodes.now }
     requires link { (0 < inner) × (inner ≤ length nodes.now) }
-    requires bounds { InBounds (Tree.by_fx (fixed_of (linked (meanings nodes.now) inner))) }
-    requires body { length body.now ≤ longest_body }
-    requires at { at ≤ length body.now }
-    ensures end { IfSome result (λ end. Walks (canon (Tree.by_fx (fixed_of (linked (meanings nodes.now) inner)))) (kind_read (Tree.by_fx (fixed_of (linked (meanings nodes.now) inner))) body.now at) body.now at end notes.new.least) }
-    ensures fault { IfNone result (FailsAt (kind_read (Tree.by_fx (fixed_of (linked (meanings nodes.now) inner))) body.now at) at notes.new.fault) }
+    requires bounds { InBounds (fx_kind nodes.now inner) }
+    ensures end { IfSome result (λ end. WalksFrom (fx_kind nodes.now inner) start.entry end notes.new.least) }
+    ensures fault { IfNone result (FailsFrom (fx_kind nodes.now inner) start.entry notes.new.fault) }
     ensures least { notes.new.least ≡ notes.old.least }
 {
     let width = fixed_width(nodes, inner);
-    let mut here = at;
+    let body = start.body;
+    let mut here = start.at;
     loop {
-        let end = run(body, here, width + 1, notes)?;
+        let end = run(Start { body, at: here }, width + 1, notes)?;
         if !ends_with_fx(body, end - 1) {
             return Some(end);
         }
@@ -161,15 +153,13 @@ pub(crate) fn walk_run(
 }
 
 /// The octet after an explicit item.
-pub(crate) fn walk_explicit(body: &[u8], at: u32, notes: &mut Notes) -> Option<u32>
-    requires body { length body.now ≤ longest_body }
-    requires at { at ≤ length body.now }
-    ensures end { IfSome result (λ end. Walks (canon Tree.explicit) (kind_read Tree.explicit body.now at) body.now at end notes.new.least) }
-    ensures fault { IfNone result (FailsAt (kind_read Tree.explicit body.now at) at notes.new.fault) }
+pub(crate) fn walk_explicit(start: Start<'_>, notes: &mut Notes) -> Option<u32>
+    ensures end { IfSome result (λ end. WalksFrom Tree.explicit start.entry end notes.new.least) }
+    ensures fault { IfNone result (FailsFrom Tree.explicit start.entry notes.new.fault) }
     ensures least { notes.new.least ≡ notes.old.least }
 {
-    match explicit_content(body, at) {
-        Ok(content) => Some(at + 1 + content.len() as u32),
+    match explicit_content(start.body, start.at) {
+        Ok(content) => Some(start.at + 1 + content.len() as u32),
         Err(fault) => {
             fail(notes, fault.cause, fault.bit);
             None

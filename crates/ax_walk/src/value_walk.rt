@@ -1,39 +1,32 @@
 //! What walks over the values of slots that have no fixed octets.
-ghost use Rattle.std.specs.Prelude.{◌≡◌, ◌<◌, ◌≤◌, length, map, ℕ, List, IfSome, IsTrue};
+ghost use Rattle.std.specs.Prelude.{◌<◌, ◌≤◌, length, ℕ, List, IfSome, IsTrue};
 ghost use Rattle.ax_format.specs.InBounds.{InBounds};
-ghost use Rattle.ax_format.specs.Sizes.{longest_body};
-ghost use Rattle.ax_codec.specs.Octets.{octets_of};
-ghost use Rattle.ax_codec.specs.Table.{IsTable, kind_at};
+ghost use Rattle.ax_codec.specs.Table.{kind_at};
 ghost use Rattle.ax_codec.specs.declared.node.Node.{Node};
-ghost use Rattle.ax_walk.specs.Walking.{WalksKind};
+ghost use Rattle.ax_walk.specs.Walking.{WalksFrom};
 
 use crate::notes::Notes;
 use crate::octets::walk_node;
-use ax_codec::Node;
+use crate::start::Start;
+use crate::table::Table;
 
 /// What walks over the values of slots that have no fixed octets.
 pub(crate) trait ValueWalk {
     // Whether it can be used with these nodes, and the octets of their fixed kinds.
     ghost fits: { Self → List Node → List ℕ → Type 0 };
 
-    /// The octet after the value that begins at octet `at`, of the kind that a link leads to. None says nothing.
+    /// The octet after the value at the start, of the kind that a link leads to. None says nothing.
     fn walk_value(
         &self,
-        nodes: &[Node],
-        octets: &[u32],
+        table: Table<'_>,
         link: u32,
-        body: &[u8],
-        at: u32,
+        start: Start<'_>,
         notes: &mut Notes,
     ) -> Option<u32>
-        requires fits { fits self.now nodes.now octets.now }
-        requires table { IsTable nodes.now }
-        requires octets { octets.now ≡ map octets_of nodes.now }
-        requires link { (0 < link) × (link ≤ length nodes.now) }
-        requires bounds { InBounds (kind_at nodes.now link) }
-        requires body { length body.now ≤ longest_body }
-        requires at { at ≤ length body.now }
-        ensures end { IfSome result (λ end. WalksKind (kind_at nodes.now link) body.now at end notes.new.least) }
+        requires fits { fits self.now table.nodes.now table.octets.now }
+        requires link { (0 < link) × (link ≤ length table.nodes.now) }
+        requires bounds { InBounds (kind_at table.nodes.now link) }
+        ensures end { IfSome result (λ end. WalksFrom (kind_at table.entry.nodes.now link) start.entry end notes.new.least) }
         ensures falls { IsTrue notes.new.least → IsTrue notes.old.least };
 }
 
@@ -47,13 +40,11 @@ impl ValueWalk for ByNodes {
     #[inline(always)]
     fn walk_value(
         &self,
-        nodes: &[Node],
-        _octets: &[u32],
+        table: Table<'_>,
         link: u32,
-        body: &[u8],
-        at: u32,
+        start: Start<'_>,
         notes: &mut Notes,
     ) -> Option<u32> {
-        walk_node(nodes, link, body, at, notes)
+        walk_node(table.nodes, link, start, notes)
     }
 }

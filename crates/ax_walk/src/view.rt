@@ -9,6 +9,7 @@ ghost use Rattle.ax_walk.specs.Views.{IsLeast, IsLeast-prop, SpellsSome, FailsTh
 use crate::notes::Notes;
 use crate::octets::walk_with;
 use crate::records::Records;
+use crate::start::Start;
 use ax_codec::Codec;
 use ax_format::BodyFault;
 
@@ -91,7 +92,7 @@ pub fn scan<'c, 'a>(codec: &'c Codec, body: &'a [u8]) -> Result<BlockView<'c, 'a
     let mut count = 0;
     let rows = codec.nodes.rows_for(codec.slots.as_slice());
     while (at as usize) < body.len() {
-        match walk_with(codec, rows, body, at, &mut notes) {
+        match walk_with(codec, rows, Start { body, at }, &mut notes) {
             Some(end) => at = end,
             None => return Err(notes.fault),
         }

@@ -5,8 +5,8 @@ use Rattle.ax_walk.proofs.by_rows.field_octets.Given as goal
 abbrev pub invariant-loop-index : goal.invariant-loop-index
 invariant-loop-index l = record {
   few : l.index ≤ octets_needed l.slots;
-  within : l.at + l.index ≤ length l.body;
-  goes_on : (j : ℕ) → j < l.index → get_or l.body (l.at + j) 0 % 2 ≡ 1;
+  within : l.start.at + l.index ≤ length l.start.body.now;
+  goes_on : (j : ℕ) → j < l.index → get_or l.start.body.now (l.start.at + j) 0 % 2 ≡ 1;
 }
 
 abbrev pub decreases-loop-index : goal.decreases-loop-index

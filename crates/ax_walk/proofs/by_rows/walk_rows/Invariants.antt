@@ -5,8 +5,8 @@ use Rattle.ax_walk.proofs.by_rows.walk_rows.Given as goal
 
 abbrev pub invariant-loop-index : goal.invariant-loop-index
 invariant-loop-index g l = record {
-  rows : HaveRows l.octets l.slots l.body l.field l.index;
-  leads : FieldLeads l.nodes l.body l.slots l.field (l.field + l.count) l.index l.here l.notes.least;
-  within : l.here ≤ length l.body;
+  rows : HaveRows l.slots.table.octets.now l.slots.links.now l.field.start.body.now l.field.start.at l.index;
+  leads : FieldLeads l.slots.table.nodes.now l.field.start.body.now l.slots.links.now l.field.start.at (l.field.start.at + l.field.octets) l.index l.here l.notes.least;
+  within : l.here ≤ length l.field.start.body.now;
   falls : IsTrue l.notes.least → IsTrue l.fn.notes.least;
 }

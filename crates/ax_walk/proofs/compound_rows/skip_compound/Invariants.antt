@@ -5,13 +5,13 @@ use Rattle.ax_walk.proofs.compound_rows.skip_compound.Given as goal
 
 abbrev pub invariant-loop-count : goal.invariant-loop-count
 invariant-loop-count l = record {
-  within : l.at + l.count ≤ length l.body;
-  goes_on : (j : ℕ) → j < l.count → get_or l.body (l.at + j) 0 % 2 ≡ 1;
+  within : l.start.at + l.count ≤ length l.start.body.now;
+  goes_on : (j : ℕ) → j < l.count → get_or l.start.body.now (l.start.at + j) 0 % 2 ≡ 1;
   most : l.skip ≤ 4294967295 * l.count;
-  rows : HaveRows l.octets l.slots l.body l.at l.count;
-  skips : FieldSkips l.nodes l.body l.slots l.at l.count l.skip;
+  rows : HaveRows l.slots.table.octets.now l.slots.links.now l.start.body.now l.start.at l.count;
+  skips : FieldSkips l.slots.table.nodes.now l.start.body.now l.slots.links.now l.start.at l.count l.skip;
   falls : IsTrue l.notes.least → IsTrue l.fn.notes.least;
 }
 
 abbrev pub decreases-loop-count : goal.decreases-loop-count
-decreases-loop-count l = length l.body - l.count
+decreases-loop-count l = length l.start.body.now - l.count

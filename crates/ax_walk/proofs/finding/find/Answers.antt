@@ -12,8 +12,8 @@ use Rattle.ax_walk.proofs.finding.find.Goals as goal
 pub find_early-requires-clause-few : goal.find_early-requires-clause-few
 find_early-requires-clause-few c = subst (λ n. c.in-Some.at ≤ octets_needed n) (c.requires.mask.count ∙ length-map c.args.slots.now (linked_slot (meanings c.args.codec.now.nodes))) c.in-Some.ensures.few
 
-pub find_marked-requires-clause-bounds : goal.find_marked-requires-clause-bounds
-find_marked-requires-clause-bounds c = slots_bounds c.args.codec.now.nodes c.args.slots.now c.requires.bounds
+pub find_marked-requires-clause-slots : goal.find_marked-requires-clause-slots
+find_marked-requires-clause-slots c = record { within = c.requires.links; bounds = slots_bounds c.args.codec.now.nodes c.args.slots.now c.requires.bounds }
 
 pub find_marked-requires-clause-marks : goal.find_marked-requires-clause-marks
 find_marked-requires-clause-marks c = marks_bits c.args.mask.now c.args.body.now c.read_presence.new.into 0 c.in-Ok.here c.in-Ok.ensures.ok

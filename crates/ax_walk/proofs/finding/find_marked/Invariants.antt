@@ -12,11 +12,11 @@ use Rattle.ax_walk.proofs.finding.find_marked.Given as goal
 
 abbrev pub invariant-loop-next : goal.invariant-loop-next
 invariant-loop-next l = record {
-  within : l.here ≤ length l.body;
+  within : l.here ≤ length l.start.body.now;
   clear : NoneUndefined (Tree.defined_slots (Tree.slots_of (linked_slots (meanings l.codec.nodes) l.slots))) l.left;
   are_bits : AreBits l.left;
-  left : IsGot (entries_at (Tree.slots_of (linked_slots (meanings l.codec.nodes) l.slots)) l.fn.marked l.body l.at) → Left (linked_slots (meanings l.codec.nodes) l.slots) l.fn.marked l.left l.body l.at l.here l.slot;
-  passed : IsGot (entries_at (Tree.slots_of (linked_slots (meanings l.codec.nodes) l.slots)) l.fn.marked l.body l.at) → Passed l.codec.nodes l.slots l.fn.marked l.left l.body l.at l.here l.slot;
+  left : IsGot (entries_at (Tree.slots_of (linked_slots (meanings l.codec.nodes) l.slots)) l.fn.marked l.start.body.now l.start.at) → Left (linked_slots (meanings l.codec.nodes) l.slots) l.fn.marked l.left l.start.body.now l.start.at l.here l.slot;
+  passed : IsGot (entries_at (Tree.slots_of (linked_slots (meanings l.codec.nodes) l.slots)) l.fn.marked l.start.body.now l.start.at) → Passed l.codec.nodes l.slots l.fn.marked l.left l.start.body.now l.start.at l.here l.slot;
 }
 
 abbrev pub decreases-loop-next : goal.decreases-loop-next

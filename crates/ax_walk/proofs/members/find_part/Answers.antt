@@ -8,8 +8,8 @@ use Rattle.ax_walk.proofs.members.find_part.Goals as goal
 pub loop-part-init : goal.loop-part-init
 loop-part-init c = record { parts = parts_looked c.args.nodes.now c.args.last c.args.parts.now c.args.body.now c.args.index c.requires.links c.requires.bounds c.requires.one }
 
-pub run-requires-clause-width : goal.run-requires-clause-width
-run-requires-clause-width c = part_wide c.args.nodes.now c.args.last c.args.parts.now c.loop-part.left.now c.in-Some.later.now c.args.body.now c.in-Some.part.now c.loop-part.here c.args.index c.loop-part.number c.loop-part.invariant.parts c.in-Some.ensures.cases.0 c.part_width.result c.fx_width-fx.result c.part_width.ensures (fx_is c.args.last (meanings c.args.nodes.now) c.in-Some.later.now c.fx_width-fx.result c.fx_width-fx.ensures)
+pub run-requires : goal.run-requires
+run-requires c = part_wide c.args.nodes.now c.args.last c.args.parts.now c.loop-part.left.now c.in-Some.later.now c.args.body.now c.in-Some.part.now c.loop-part.here c.args.index c.loop-part.number c.loop-part.invariant.parts c.in-Some.ensures.cases.0 c.part_width.result c.fx_width-fx.result c.part_width.ensures (fx_is c.args.last (meanings c.args.nodes.now) c.in-Some.later.now c.fx_width-fx.result c.fx_width-fx.ensures)
 
 pub is_last_part-requires : goal.is_last_part-requires
 is_last_part-requires c = (part_some c.args.nodes.now c.args.last c.args.parts.now c.loop-part.left.now c.in-Some.later.now c.args.body.now c.in-Some.part.now c.loop-part.here c.args.index c.loop-part.number c.loop-part.invariant.parts c.in-Some.ensures.cases.0 c.part_width.result c.fx_width-fx.result c.part_width.ensures (fx_is c.args.last (meanings c.args.nodes.now) c.in-Some.later.now c.fx_width-fx.result c.fx_width-fx.ensures) c.in-Some-run.end c.in-Some-run.ensures.end.0 c.in-Some-run.ensures.end.1 c.in-Some-run.ensures.end.2, c.in-Some-run.ensures.end.1)

@@ -1,5 +1,4 @@
 use Rattle.std.proofs.Common.{◌-◌, ◌%◌, length, ap, arith, refl, subst, sym, ◌∙◌}
-use Rattle.ax_bits.proofs.Pieces.{AreOctets-items}
 use Rattle.ax_format.specs.InBounds.{InBounds}
 use Rattle.ax_format.specs.Tree as Tree
 use Rattle.ax_format.specs.declared.content.Content.TheVariants.{Raw}
@@ -14,12 +13,12 @@ use Rattle.ax_walk.proofs.MarkedSteps.{next_marked, marks_next, marks_last, mark
 use Rattle.ax_fspec.proofs.Marking.{marks_bits}
 use Rattle.ax_walk.proofs.octets.+walk.Goals as goal
 
-pub walk-run-requires-clause-width : goal.walk-run-requires-clause-width
-walk-run-requires-clause-width t c =
+pub walk-run-requires : goal.walk-run-requires
+walk-run-requires t c =
     let b : InBounds (Tree.fixed (Tree.element c.in-Element.width Raw)) = subst InBounds (is_element c.args.nodes.now c.args.link c.index-nodes-link.result c.requires.table c.requires.link.0 c.requires.link.1 c.index-nodes-link.is c.in-Element.width c.in-Element.is) c.requires.bounds in (b.0, omega (arith, b.1))
 
-pub walk-run-requires-in-Group-clause-width : goal.walk-run-requires-in-Group-clause-width
-walk-run-requires-in-Group-clause-width t c =
+pub walk-run-requires-in-Group : goal.walk-run-requires-in-Group
+walk-run-requires-in-Group t c =
     let b : InBounds (Tree.fixed (Tree.group (linked_members (meanings c.args.nodes.now) c.in-Group.members))) = subst InBounds (is_group c.args.nodes.now c.args.link c.index-nodes-link.result c.requires.table c.requires.link.0 c.requires.link.1 c.index-nodes-link.is c.in-Group.width c.in-Group.members c.in-Group.is) c.requires.bounds in
     let w = group_width c.args.nodes.now c.args.link c.index-nodes-link.result c.requires.table c.requires.link.0 c.requires.link.1 c.index-nodes-link.is c.in-Group.width c.in-Group.members c.in-Group.is in (ap (λ w. w % 8) w ∙ b.0, omega (arith, b.1))
 
@@ -35,7 +34,7 @@ pub walk-walk_counted-requires : goal.walk-walk_counted-requires
 walk-walk_counted-requires t c =
     let l = counted_link c.args.nodes.now c.args.link c.index-nodes-link.result c.requires.table c.requires.link.0 c.requires.link.1 c.index-nodes-link.is c.in-Counted.counter c.in-Counted.inner c.in-Counted.is in
     let b : InBounds (Tree.counted c.in-Counted.counter (kind_at c.args.nodes.now c.in-Counted.inner)) = subst InBounds (is_counted c.args.nodes.now c.args.link c.index-nodes-link.result c.requires.table c.requires.link.0 c.requires.link.1 c.index-nodes-link.is c.in-Counted.counter c.in-Counted.inner c.in-Counted.is) c.requires.bounds in
-    (omega (arith, l.1, c.decreases), (c.requires.table, ((l.0, omega (arith, l.1, c.requires.link.1)), (b, (c.requires.body, c.requires.at)))))
+    (omega (arith, l.1, c.decreases), (c.requires.table, ((l.0, omega (arith, l.1, c.requires.link.1)), b)))
 
 pub walk-walk_run-requires-clause-link : goal.walk-walk_run-requires-clause-link
 walk-walk_run-requires-clause-link t c =
@@ -49,7 +48,7 @@ pub walk-walk_compound-requires : goal.walk-walk_compound-requires
 walk-walk_compound-requires t c =
     let b : InBounds (record_kind_at c.args.nodes.now c.as_slice-in-Compound.result.now) = subst InBounds (is_compound c.args.nodes.now c.args.link c.index-nodes-link.result c.requires.table c.requires.link.0 c.requires.link.1 c.index-nodes-link.is c.in-Compound.mask c.in-Compound.slots c.as_slice-in-Compound.result.now c.in-Compound.is c.as_slice-in-Compound.ensures.members) c.requires.bounds in
     let falls = compound_falls c.args.nodes.now c.args.link c.index-nodes-link.result c.requires.table c.requires.link.0 c.requires.link.1 c.index-nodes-link.is c.in-Compound.mask c.in-Compound.slots c.as_slice-in-Compound.result.now c.in-Compound.is c.as_slice-in-Compound.ensures.members in
-    (omega (arith, falls, c.decreases), (c.requires.table, (compound_links c.args.nodes.now c.args.link c.index-nodes-link.result c.requires.table c.requires.link.0 c.requires.link.1 c.index-nodes-link.is c.in-Compound.mask c.in-Compound.slots c.as_slice-in-Compound.result.now c.in-Compound.is c.as_slice-in-Compound.ensures.members, (compound_mask c.args.nodes.now c.args.link c.index-nodes-link.result c.requires.table c.requires.link.0 c.requires.link.1 c.index-nodes-link.is c.in-Compound.mask c.in-Compound.slots c.as_slice-in-Compound.result.now c.in-Compound.is c.as_slice-in-Compound.ensures.members, (b, (c.requires.body, c.requires.at))))))
+    (omega (arith, falls, c.decreases), (c.requires.table, record { within = compound_links c.args.nodes.now c.args.link c.index-nodes-link.result c.requires.table c.requires.link.0 c.requires.link.1 c.index-nodes-link.is c.in-Compound.mask c.in-Compound.slots c.as_slice-in-Compound.result.now c.in-Compound.is c.as_slice-in-Compound.ensures.members; mask = compound_mask c.args.nodes.now c.args.link c.index-nodes-link.result c.requires.table c.requires.link.0 c.requires.link.1 c.index-nodes-link.is c.in-Compound.mask c.in-Compound.slots c.as_slice-in-Compound.result.now c.in-Compound.is c.as_slice-in-Compound.ensures.members; bounds = b }))
 
 pub walk-returns-in-Element-clause-end : goal.walk-returns-in-Element-clause-end
 walk-returns-in-Element-clause-end t c =
@@ -119,89 +118,89 @@ walk-returns-in-Compound-clause-fault t c =
 
 pub walk_compound-walk_marked-requires : goal.walk_compound-walk_marked-requires
 walk_compound-walk_marked-requires t c =
-    (omega (arith, c.decreases), (c.requires.table, (c.requires.links, (slots_bounds c.args.nodes.now c.args.slots.now c.requires.bounds, (marks_bits c.args.mask.now c.args.body.now c.read_presence.new.into c.args.at c.in-Ok.here c.in-Ok.ensures.ok, (marks_clear (linked_slots (meanings c.args.nodes.now) c.args.slots.now) c.args.mask.now c.args.body.now c.read_presence.new.into c.args.at c.in-Ok.here c.requires.mask c.in-Ok.ensures.ok, (c.requires.body, c.in-Ok.ensures.ok.within)))))))
+    (omega (arith, c.decreases), (c.requires.table, (record { within = c.requires.slots.within; bounds = slots_bounds c.args.nodes.now c.args.slots.now c.requires.slots.bounds }, (marks_bits c.args.mask.now c.args.start.body.now c.read_presence.new.into c.args.start.at c.in-Ok.here c.in-Ok.ensures.ok, marks_clear (linked_slots (meanings c.args.nodes.now) c.args.slots.now) c.args.mask.now c.args.start.body.now c.read_presence.new.into c.args.start.at c.in-Ok.here c.requires.slots.mask c.in-Ok.ensures.ok))))
 
 pub walk_compound-returns-in-Ok-clause-end : goal.walk_compound-returns-in-Ok-clause-end
 walk_compound-returns-in-Ok-clause-end t c =
-    compound_end c.args.nodes.now c.args.slots.now c.args.mask.now c.args.body.now c.read_presence.new.into c.args.at c.in-Ok.here (AreOctets-items c.args.body.now (λ i. (let fits = c.type_inv.body i in omega arith))) c.requires.bounds c.requires.mask c.in-Ok.ensures.ok c.note_field.new.notes.least c.walk_marked.new.notes.least c.walk_marked.result c.note_field.ensures.needed c.walk_marked.ensures.falls c.walk_marked.ensures.end
+    compound_end c.args.nodes.now c.args.slots.now c.args.mask.now c.args.start.body.now c.read_presence.new.into c.args.start.at c.in-Ok.here c.are_octets.ensures c.requires.slots.bounds c.requires.slots.mask c.in-Ok.ensures.ok c.note_field.new.notes.least c.walk_marked.new.notes.least c.walk_marked.result c.note_field.ensures.needed c.walk_marked.ensures.falls c.walk_marked.ensures.end
 
 pub walk_compound-returns-in-Ok-clause-fault : goal.walk_compound-returns-in-Ok-clause-fault
 walk_compound-returns-in-Ok-clause-fault t c =
-    compound_fault c.args.nodes.now c.args.slots.now c.args.mask.now c.args.body.now c.read_presence.new.into c.args.at c.in-Ok.here (AreOctets-items c.args.body.now (λ i. (let fits = c.type_inv.body i in omega arith))) c.requires.bounds c.requires.mask c.in-Ok.ensures.ok c.note_field.new.notes.least c.walk_marked.new.notes.fault c.walk_marked.result c.note_field.ensures.needed c.walk_marked.ensures.fault
+    compound_fault c.args.nodes.now c.args.slots.now c.args.mask.now c.args.start.body.now c.read_presence.new.into c.args.start.at c.in-Ok.here c.are_octets.ensures c.requires.slots.bounds c.requires.slots.mask c.in-Ok.ensures.ok c.note_field.new.notes.least c.walk_marked.new.notes.fault c.walk_marked.result c.note_field.ensures.needed c.walk_marked.ensures.fault
 
 pub walk_compound-returns-in-Err-clause-fault : goal.walk_compound-returns-in-Err-clause-fault
 walk_compound-returns-in-Err-clause-fault t c =
-    record_failed c.args.nodes.now c.args.slots.now c.args.mask.now c.args.body.now c.args.at c.in-Err.fault c.requires.mask c.in-Err.ensures.err
+    record_failed c.args.nodes.now c.args.slots.now c.args.mask.now c.args.start.body.now c.args.start.at c.in-Err.fault c.requires.slots.mask c.in-Err.ensures.err
 
 pub walk_counted-returns-in_default-clause-fault : goal.walk_counted-returns-in_default-clause-fault
 walk_counted-returns-in_default-clause-fault t c =
-    counted_none c.args.size (kind_at c.args.nodes.now c.args.inner) c.args.body.now c.args.at c.fail.new.notes.fault c.in_default.ensures.short (ap (λ f. f.cause) c.fail.ensures.fault) (ap (λ f. f.bit) c.fail.ensures.fault)
+    counted_none c.args.size (kind_at c.args.nodes.now c.args.inner) c.args.start.body.now c.args.start.at c.fail.new.notes.fault c.in_default.ensures.short (ap (λ f. f.cause) c.fail.ensures.fault) (ap (λ f. f.bit) c.fail.ensures.fault)
 
 pub walk_counted-loop-init : goal.walk_counted-loop-init
 walk_counted-loop-init t c =
-    record { counted = count_first c.args.size (kind_at c.args.nodes.now c.args.inner) c.args.body.now c.in-Some.count c.args.at c.octets.result c.args.notes.now.least c.in-Some.ensures.count c.octets.ensures; falls = λ t. t }
+    record { counted = count_first c.args.size (kind_at c.args.nodes.now c.args.inner) c.args.start.body.now c.in-Some.count c.args.start.at c.octets.result c.args.notes.now.least c.in-Some.ensures.count c.octets.ensures; falls = λ t. t }
 
 pub walk_counted-returns-in_err-here-clause-fault : goal.walk_counted-returns-in_err-here-clause-fault
 walk_counted-returns-in_err-here-clause-fault t c =
-    if_none c.from_residual.result (count_failed c.args.size (kind_at c.args.nodes.now c.args.inner) c.args.body.now c.in-Some.count c.loop.counter c.args.at c.loop.here c.loop.notes.least c.walk.new.notes.fault c.loop.invariant.counted c.loop-test.true c.in_err-here.ensures.fault)
+    if_none c.from_residual.result (count_failed c.args.size (kind_at c.args.nodes.now c.args.inner) c.args.start.body.now c.in-Some.count c.loop.counter c.args.start.at c.loop.here c.loop.notes.least c.walk.new.notes.fault c.loop.invariant.counted c.loop-test.true c.in_err-here.ensures.fault)
 
 pub walk_counted-loop-preserved : goal.walk_counted-loop-preserved
 walk_counted-loop-preserved t c =
     record {
-      counted = count_next c.args.size (kind_at c.args.nodes.now c.args.inner) c.args.body.now c.in-Some.count c.loop.counter c.args.at c.loop.here c.in_ok-here.here c.loop.notes.least c.walk.new.notes.least c.loop.invariant.counted c.loop-test.true c.walk.ensures.falls c.in_ok-here.ensures.end;
+      counted = count_next c.args.size (kind_at c.args.nodes.now c.args.inner) c.args.start.body.now c.in-Some.count c.loop.counter c.args.start.at c.loop.here c.in_ok-here.here c.loop.notes.least c.walk.new.notes.least c.loop.invariant.counted c.loop-test.true c.walk.ensures.falls c.in_ok-here.ensures.end;
       falls = λ t. c.loop.invariant.falls (c.walk.ensures.falls t);
     }
 
 pub walk_counted-loop-preserved-in-Some-fixed_end : goal.walk_counted-loop-preserved-in-Some-fixed_end
 walk_counted-loop-preserved-in-Some-fixed_end t c =
     record {
-      counted = count_next c.args.size (kind_at c.args.nodes.now c.args.inner) c.args.body.now c.in-Some.count c.loop.counter c.args.at c.loop.here c.in-Some-fixed_end.end c.loop.notes.least c.loop.notes.least c.loop.invariant.counted c.loop-test.true (λ t. t) (c.in-Some-fixed_end.ensures c.loop.notes.least);
+      counted = count_next c.args.size (kind_at c.args.nodes.now c.args.inner) c.args.start.body.now c.in-Some.count c.loop.counter c.args.start.at c.loop.here c.in-Some-fixed_end.end c.loop.notes.least c.loop.notes.least c.loop.invariant.counted c.loop-test.true (λ t. t) (c.in-Some-fixed_end.ensures c.loop.notes.least);
       falls = c.loop.invariant.falls;
     }
 
 pub walk_counted-returns-clause-end : goal.walk_counted-returns-clause-end
 walk_counted-returns-clause-end t c =
-    count_last c.args.size (kind_at c.args.nodes.now c.args.inner) c.args.body.now c.in-Some.count c.loop.counter c.args.at c.loop.here c.loop.notes.least c.loop.invariant.counted c.loop-test.false
+    count_last c.args.size (kind_at c.args.nodes.now c.args.inner) c.args.start.body.now c.in-Some.count c.loop.counter c.args.start.at c.loop.here c.loop.notes.least c.loop.invariant.counted c.loop-test.false
 
 pub walk_marked-bounds-slots-slot : goal.walk_marked-bounds-slots-slot
 walk_marked-bounds-slots-slot t c =
-    (next_marked c.args.nodes.now c.args.slots.now c.loop-slot.left c.take_first.new.self _ c.in-Some.slot c.requires.bounds c.loop-slot.invariant.marked.clear c.loop-slot.invariant.marked.are_bits c.in-Some.ensures.some c.in-Some.ensures.marks).within
+    (next_marked c.args.nodes.now c.args.slots.now c.loop-slot.left c.take_first.new.self _ c.in-Some.slot c.requires.slots.bounds c.loop-slot.invariant.marked.clear c.loop-slot.invariant.marked.are_bits c.in-Some.ensures.some c.in-Some.ensures.marks).within
 
 pub walk_marked-walk-requires : goal.walk_marked-walk-requires
 walk_marked-walk-requires t c =
-    let n = next_marked c.args.nodes.now c.args.slots.now c.loop-slot.left c.take_first.new.self _ c.in-Some.slot c.requires.bounds c.loop-slot.invariant.marked.clear c.loop-slot.invariant.marked.are_bits c.in-Some.ensures.some c.in-Some.ensures.marks in
-    (omega (arith, greatest_at c.args.slots.now (c.in-Some.slot - 1) 0 n.within, c.decreases), (c.requires.table, ((n.some, within_at (length c.args.nodes.now) c.args.slots.now (c.in-Some.slot - 1) 0 c.requires.links n.within), (n.bounds, (c.requires.body, c.loop-slot.invariant.marked.within)))))
+    let n = next_marked c.args.nodes.now c.args.slots.now c.loop-slot.left c.take_first.new.self _ c.in-Some.slot c.requires.slots.bounds c.loop-slot.invariant.marked.clear c.loop-slot.invariant.marked.are_bits c.in-Some.ensures.some c.in-Some.ensures.marks in
+    (omega (arith, greatest_at c.args.slots.now (c.in-Some.slot - 1) 0 n.within, c.decreases), (c.requires.table, ((n.some, within_at (length c.args.nodes.now) c.args.slots.now (c.in-Some.slot - 1) 0 c.requires.slots.within n.within), (n.bounds, (c.args.start.few, c.loop-slot.invariant.marked.within)))))
 
 pub walk_marked-returns-in_err-here-clause-fault : goal.walk_marked-returns-in_err-here-clause-fault
 walk_marked-returns-in_err-here-clause-fault t c =
-    if_none c.from_residual.result (marks_failed c.args.nodes.now c.args.slots.now c.args.marked c.loop-slot.left c.take_first.new.self c.args.body.now c.in-Some.slot c.args.at c.loop-slot.here c.loop-slot.notes.least c.loop-slot.invariant.marked (next_marked c.args.nodes.now c.args.slots.now c.loop-slot.left c.take_first.new.self _ c.in-Some.slot c.requires.bounds c.loop-slot.invariant.marked.clear c.loop-slot.invariant.marked.are_bits c.in-Some.ensures.some c.in-Some.ensures.marks) c.walk.new.notes.fault c.in_err-here.ensures.fault)
+    if_none c.from_residual.result (marks_failed c.args.nodes.now c.args.slots.now c.args.marked c.loop-slot.left c.take_first.new.self c.args.start.body.now c.in-Some.slot c.args.start.at c.loop-slot.here c.loop-slot.notes.least c.loop-slot.invariant.marked (next_marked c.args.nodes.now c.args.slots.now c.loop-slot.left c.take_first.new.self _ c.in-Some.slot c.requires.slots.bounds c.loop-slot.invariant.marked.clear c.loop-slot.invariant.marked.are_bits c.in-Some.ensures.some c.in-Some.ensures.marks) c.walk.new.notes.fault c.in_err-here.ensures.fault)
 
 pub walk_marked-loop-slot-preserved : goal.walk_marked-loop-slot-preserved
 walk_marked-loop-slot-preserved t c =
     record {
-      marked = marks_next c.args.nodes.now c.args.slots.now c.args.marked c.loop-slot.left c.take_first.new.self c.args.body.now c.in-Some.slot c.args.at c.loop-slot.here c.loop-slot.notes.least c.loop-slot.invariant.marked (next_marked c.args.nodes.now c.args.slots.now c.loop-slot.left c.take_first.new.self _ c.in-Some.slot c.requires.bounds c.loop-slot.invariant.marked.clear c.loop-slot.invariant.marked.are_bits c.in-Some.ensures.some c.in-Some.ensures.marks) c.in_ok-here.here c.walk.new.notes.least c.walk.ensures.falls c.in_ok-here.ensures.end;
+      marked = marks_next c.args.nodes.now c.args.slots.now c.args.marked c.loop-slot.left c.take_first.new.self c.args.start.body.now c.in-Some.slot c.args.start.at c.loop-slot.here c.loop-slot.notes.least c.loop-slot.invariant.marked (next_marked c.args.nodes.now c.args.slots.now c.loop-slot.left c.take_first.new.self _ c.in-Some.slot c.requires.slots.bounds c.loop-slot.invariant.marked.clear c.loop-slot.invariant.marked.are_bits c.in-Some.ensures.some c.in-Some.ensures.marks) c.in_ok-here.here c.walk.new.notes.least c.walk.ensures.falls c.in_ok-here.ensures.end;
       falls = λ t. c.loop-slot.invariant.falls (c.walk.ensures.falls t);
     }
 
 pub walk_marked-fixed_end-requires-clause-link : goal.walk_marked-fixed_end-requires-clause-link
 walk_marked-fixed_end-requires-clause-link t c =
-    let n = next_marked c.args.nodes.now c.args.slots.now c.loop-slot.left c.take_first.new.self _ c.in-Some.slot c.requires.bounds c.loop-slot.invariant.marked.clear c.loop-slot.invariant.marked.are_bits c.in-Some.ensures.some c.in-Some.ensures.marks in
-    (n.some, within_at (length c.args.nodes.now) c.args.slots.now (c.in-Some.slot - 1) 0 c.requires.links n.within)
+    let n = next_marked c.args.nodes.now c.args.slots.now c.loop-slot.left c.take_first.new.self _ c.in-Some.slot c.requires.slots.bounds c.loop-slot.invariant.marked.clear c.loop-slot.invariant.marked.are_bits c.in-Some.ensures.some c.in-Some.ensures.marks in
+    (n.some, within_at (length c.args.nodes.now) c.args.slots.now (c.in-Some.slot - 1) 0 c.requires.slots.within n.within)
 
 pub walk_marked-fixed_end-requires-clause-bounds : goal.walk_marked-fixed_end-requires-clause-bounds
 walk_marked-fixed_end-requires-clause-bounds t c =
-    let n = next_marked c.args.nodes.now c.args.slots.now c.loop-slot.left c.take_first.new.self _ c.in-Some.slot c.requires.bounds c.loop-slot.invariant.marked.clear c.loop-slot.invariant.marked.are_bits c.in-Some.ensures.some c.in-Some.ensures.marks in n.bounds
+    let n = next_marked c.args.nodes.now c.args.slots.now c.loop-slot.left c.take_first.new.self _ c.in-Some.slot c.requires.slots.bounds c.loop-slot.invariant.marked.clear c.loop-slot.invariant.marked.are_bits c.in-Some.ensures.some c.in-Some.ensures.marks in n.bounds
 
 pub walk_marked-loop-slot-preserved-in-Some-fixed_end : goal.walk_marked-loop-slot-preserved-in-Some-fixed_end
 walk_marked-loop-slot-preserved-in-Some-fixed_end t c =
     record {
-      marked = marks_next c.args.nodes.now c.args.slots.now c.args.marked c.loop-slot.left c.take_first.new.self c.args.body.now c.in-Some.slot c.args.at c.loop-slot.here c.loop-slot.notes.least c.loop-slot.invariant.marked (next_marked c.args.nodes.now c.args.slots.now c.loop-slot.left c.take_first.new.self _ c.in-Some.slot c.requires.bounds c.loop-slot.invariant.marked.clear c.loop-slot.invariant.marked.are_bits c.in-Some.ensures.some c.in-Some.ensures.marks) c.in-Some-fixed_end.end c.loop-slot.notes.least (λ t. t) (c.in-Some-fixed_end.ensures c.loop-slot.notes.least);
+      marked = marks_next c.args.nodes.now c.args.slots.now c.args.marked c.loop-slot.left c.take_first.new.self c.args.start.body.now c.in-Some.slot c.args.start.at c.loop-slot.here c.loop-slot.notes.least c.loop-slot.invariant.marked (next_marked c.args.nodes.now c.args.slots.now c.loop-slot.left c.take_first.new.self _ c.in-Some.slot c.requires.slots.bounds c.loop-slot.invariant.marked.clear c.loop-slot.invariant.marked.are_bits c.in-Some.ensures.some c.in-Some.ensures.marks) c.in-Some-fixed_end.end c.loop-slot.notes.least (λ t. t) (c.in-Some-fixed_end.ensures c.loop-slot.notes.least);
       falls = c.loop-slot.invariant.falls;
     }
 
 pub walk_marked-returns-clause-end : goal.walk_marked-returns-clause-end
 walk_marked-returns-clause-end t c =
-    marks_last (linked_slots (meanings c.args.nodes.now) c.args.slots.now) c.args.marked c.loop-slot.left c.args.body.now c.args.at c.loop-slot.here c.loop-slot.notes.least c.loop-slot.invariant.marked c.in_default.ensures.none
+    marks_last (linked_slots (meanings c.args.nodes.now) c.args.slots.now) c.args.marked c.loop-slot.left c.args.start.body.now c.args.start.at c.loop-slot.here c.loop-slot.notes.least c.loop-slot.invariant.marked c.in_default.ensures.none
 
 pub walk-returns-in-Element-clause-falls : goal.walk-returns-in-Element-clause-falls
 walk-returns-in-Element-clause-falls t c = λ h. sym c.run.ensures.least ∙ h

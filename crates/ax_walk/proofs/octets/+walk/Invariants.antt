@@ -20,13 +20,13 @@ decreases-walk_marked l = 3 * greatest l.slots.now + 1
 
 abbrev pub invariant-walk_counted-loop : goal.invariant-walk_counted-loop
 invariant-walk_counted-loop l = record {
-  counted : CountLeads l.fn.size (kind_at l.nodes l.inner) l.body l.count l.counter l.at l.here l.notes.least;
+  counted : CountLeads l.fn.size (kind_at l.nodes l.inner) l.start.body.now l.count l.counter l.start.at l.here l.notes.least;
   falls : IsTrue l.notes.least → IsTrue l.fn.notes.least;
 }
 
 abbrev pub invariant-walk_marked-loop-slot : goal.invariant-walk_marked-loop-slot
 invariant-walk_marked-loop-slot l = record {
-  marked : MarksLead (linked_slots (meanings l.nodes) l.slots) l.fn.marked l.left l.body l.at l.here l.notes.least;
+  marked : MarksLead (linked_slots (meanings l.nodes) l.slots) l.fn.marked l.left l.start.body.now l.start.at l.here l.notes.least;
   falls : IsTrue l.notes.least → IsTrue l.fn.notes.least;
 }
 

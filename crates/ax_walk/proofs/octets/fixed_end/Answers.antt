@@ -19,11 +19,11 @@ run_end-requires-in-Group-clause-width c =
 pub returns-in-Element : goal.returns-in-Element
 returns-in-Element c =
     let b : InBounds (Tree.fixed (Tree.element c.in-Element.width Raw)) = subst InBounds (is_element c.args.nodes.now c.args.link c.index-nodes-link.result c.requires.table c.requires.link.0 c.requires.link.1 c.index-nodes-link.is c.in-Element.width c.in-Element.is) c.requires.bounds in
-    each_least (kind_at c.args.nodes.now c.args.link) c.args.body.now c.args.at c.run_end.result (λ least. end_as c.args.body.now c.args.at (kind_at c.args.nodes.now c.args.link) (Tree.fixed (Tree.element c.in-Element.width Raw)) (is_element c.args.nodes.now c.args.link c.index-nodes-link.result c.requires.table c.requires.link.0 c.requires.link.1 c.index-nodes-link.is c.in-Element.width c.in-Element.is) least c.run_end.result
-    (run_end (Tree.element c.in-Element.width Raw) c.args.body.now c.args.at c.in-Element.width refl least c.run_end.result b c.run_end.ensures.end))
+    each_least (kind_at c.args.nodes.now c.args.link) c.args.start.body.now c.args.start.at c.run_end.result (λ least. end_as c.args.start.body.now c.args.start.at (kind_at c.args.nodes.now c.args.link) (Tree.fixed (Tree.element c.in-Element.width Raw)) (is_element c.args.nodes.now c.args.link c.index-nodes-link.result c.requires.table c.requires.link.0 c.requires.link.1 c.index-nodes-link.is c.in-Element.width c.in-Element.is) least c.run_end.result
+    (run_end (Tree.element c.in-Element.width Raw) c.args.start.body.now c.args.start.at c.in-Element.width refl least c.run_end.result b c.run_end.ensures.end))
 
 pub returns-in-Group : goal.returns-in-Group
 returns-in-Group c =
     let b : InBounds (Tree.fixed (Tree.group (linked_members (meanings c.args.nodes.now) c.in-Group.members))) = subst InBounds (is_group c.args.nodes.now c.args.link c.index-nodes-link.result c.requires.table c.requires.link.0 c.requires.link.1 c.index-nodes-link.is c.in-Group.width c.in-Group.members c.in-Group.is) c.requires.bounds in
-    each_least (kind_at c.args.nodes.now c.args.link) c.args.body.now c.args.at c.run_end-in-Group.result (λ least. end_as c.args.body.now c.args.at (kind_at c.args.nodes.now c.args.link) (Tree.fixed (Tree.group (linked_members (meanings c.args.nodes.now) c.in-Group.members))) (is_group c.args.nodes.now c.args.link c.index-nodes-link.result c.requires.table c.requires.link.0 c.requires.link.1 c.index-nodes-link.is c.in-Group.width c.in-Group.members c.in-Group.is) least c.run_end-in-Group.result
-    (run_end (Tree.group (linked_members (meanings c.args.nodes.now) c.in-Group.members)) c.args.body.now c.args.at c.in-Group.width (group_width c.args.nodes.now c.args.link c.index-nodes-link.result c.requires.table c.requires.link.0 c.requires.link.1 c.index-nodes-link.is c.in-Group.width c.in-Group.members c.in-Group.is) least c.run_end-in-Group.result b c.run_end-in-Group.ensures.end))
+    each_least (kind_at c.args.nodes.now c.args.link) c.args.start.body.now c.args.start.at c.run_end-in-Group.result (λ least. end_as c.args.start.body.now c.args.start.at (kind_at c.args.nodes.now c.args.link) (Tree.fixed (Tree.group (linked_members (meanings c.args.nodes.now) c.in-Group.members))) (is_group c.args.nodes.now c.args.link c.index-nodes-link.result c.requires.table c.requires.link.0 c.requires.link.1 c.index-nodes-link.is c.in-Group.width c.in-Group.members c.in-Group.is) least c.run_end-in-Group.result
+    (run_end (Tree.group (linked_members (meanings c.args.nodes.now) c.in-Group.members)) c.args.start.body.now c.args.start.at c.in-Group.width (group_width c.args.nodes.now c.args.link c.index-nodes-link.result c.requires.table c.requires.link.0 c.requires.link.1 c.index-nodes-link.is c.in-Group.width c.in-Group.members c.in-Group.is) least c.run_end-in-Group.result b c.run_end-in-Group.ensures.end))

@@ -6,7 +6,7 @@ use Rattle.ax_walk.proofs.octets.walk_items.Given as goal
 
 abbrev pub invariant-loop-slot : goal.invariant-loop-slot
 invariant-loop-slot l = record {
-  marked : MarksLead (linked_slots (meanings l.nodes) l.slots) l.fn.marked l.left l.body l.at l.here l.notes.least;
+  marked : MarksLead (linked_slots (meanings l.slots.table.nodes.now) l.slots.links.now) l.fn.marked l.left l.start.body.now l.start.at l.here l.notes.least;
   falls : IsTrue l.notes.least → IsTrue l.fn.notes.least;
 }
 

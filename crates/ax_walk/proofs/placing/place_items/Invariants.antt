@@ -1,4 +1,4 @@
-use Rattle.std.proofs.Common.{false, length}
+use Rattle.std.proofs.Common.{◌≡◌, false, length}
 use Rattle.ax_fspec.specs.Marks.{slots_of}
 use Rattle.ax_codec.specs.Meaning.{meanings, linked_slots}
 use Rattle.ax_walk.proofs.MarkedSteps.{MarksLead}
@@ -7,8 +7,9 @@ use Rattle.ax_walk.proofs.placing.place_items.Given as goal
 
 abbrev pub invariant-loop-slot : goal.invariant-loop-slot
 invariant-loop-slot l = record {
-  marked : MarksLead (linked_slots (meanings l.nodes) l.slots) l.fn.marked l.left l.body l.at l.here false;
-  placed : PlacedSoFar l.nodes l.slots l.fn.marked l.left l.body l.at l.here l.windows;
+  marked : MarksLead (linked_slots (meanings l.slots.table.nodes.now) l.slots.links.now) l.fn.places.marked l.left l.start.body.now l.start.at l.here false;
+  kept : l.places.marked ≡ l.fn.places.marked;
+  placed : PlacedSoFar l.slots.table.nodes.now l.slots.links.now l.fn.places.marked l.left l.start.body.now l.start.at l.here l.places.windows;
 }
 
 abbrev pub decreases-loop-slot : goal.decreases-loop-slot

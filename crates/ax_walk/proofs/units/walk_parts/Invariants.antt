@@ -8,7 +8,7 @@ abbrev pub invariant-loop-part : goal.invariant-loop-part
 invariant-loop-part l = record {
   some : 0 < length l.left;
   links : LinksWithin (length l.nodes) l.left;
-  parts : PartsLead l.last (linked_parts (meanings l.nodes) l.parts) (linked_parts (meanings l.nodes) l.left) l.body l.at l.here;
+  parts : PartsLead l.last (linked_parts (meanings l.nodes) l.parts) (linked_parts (meanings l.nodes) l.left) l.start.body.now l.start.at l.here;
   least : l.notes.least ≡ l.fn.notes.least;
 }
 

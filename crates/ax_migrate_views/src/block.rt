@@ -69,7 +69,9 @@ pub(crate) fn migrate_block<R: Sink, K: Sink>(
     }
 }
 
-/// Migrates a block whose migrated records don't come into one data block. Its lines were laid.
+/// Migrates a block whose migrated records don't come into one data block. Its lines were laid. It has the ranges that it keeps on
+/// its stack, which are set at each call, and so stands apart.
+#[inline(never)]
 fn migrate_long<R: Sink, K: Sink>(
     migrator: &Migrator<'_>,
     block: NumberedBlock<'_, '_>,
@@ -123,6 +125,19 @@ fn report_losses<R: Sink>(
     if told <= LONGEST {
         return write_text(report, &outputs.lines[..told as usize]);
     }
+    report_again(migrator, block, report)
+}
+
+/// Writes the lines of a block from its records: they are more than were kept. It has a view on its stack, and so stands apart.
+#[inline(never)]
+fn report_again<R: Sink>(
+    migrator: &Migrator<'_>,
+    block: NumberedBlock<'_, '_>,
+    report: &mut R,
+) -> Result<(), SinkFailed>
+    requires spelled { SpellsSome migrator.now.codec.now block.raw.now.body.now }
+    ensures { WritesLosses migrator.now block.entry.raw.now.body.now block.entry.number (sink_change R.Sink report.old report.new) result }
+{
     match scan(migrator.old(), block.raw.body) {
         Ok(view) => migrator.write_losses(report, block.number, &view),
         Err(_) => Err(SinkFailed),

@@ -1,5 +1,8 @@
--- The canonical octets of a migrated item, as its view shows it.
-use Rattle.std.specs.Prelude.{ℕ, List}
+-- The canonical octets of a migrated item, as its view shows it, and what a compound is.
+use Rattle.std.specs.Prelude.{◌≡◌, ◌-◌, ℕ, List, get_or}
+use Rattle.ax_codec.specs.declared.node.Node.{Node}
+use Rattle.ax_codec.specs.declared.node.Node.TheVariants as Of
+use Rattle.ax_fspec.specs.declared.mask.SlotMask.{SlotMask}
 use Rattle.ax_moves.specs.Octets.{value_canon_by}
 use Rattle.ax_relation.specs.Moves.{MovesTree}
 use Rattle.ax_relation.specs.PlainMoves.{moves_tree}
@@ -14,3 +17,12 @@ item_canon_by c ms item = value_canon_by c ms (item_kind item) (item_value item)
 -- as a move takes the item to its new slot
 abbrev pub moved_item : Move → ItemView → List ℕ
 moved_item m item = item_canon_by (out-Move m).parts (moves_tree (out-Move m).below) item
+
+-- the item is a compound of these slots
+pub record IsCompoundOf (item : ItemView) (links : List ℕ) : Type 0 where
+  pub one : Node
+  pub at : one ≡ get_or item.codec.now.nodes (item.link - 1) one
+  pub mask : SlotMask
+  pub own : List ℕ
+  pub is : one ≡ Of.Compound mask own
+  pub same : own ≡ links

@@ -1,6 +1,7 @@
 //! The lines of what records lose, laid one after another. Nothing here takes memory.
 ghost use Rattle.std.specs.Prelude.{◌≡◌, ℕ, [], IfSome, IsTrue, length, decimal};
 ghost use Rattle.ax_migration.specs.Losing.{lost_line, lost_lines};
+ghost use Rattle.ax_moves.specs.Items.{IsCompoundOf};
 ghost use Rattle.ax_moves.specs.Laying.{Gathers};
 ghost use Rattle.ax_moves.specs.Lost.{AreRuns, HasParts, IsPassed, is_below, lines_below, losses_below, own_loss, place_numbers, record_lines};
 ghost use Rattle.ax_moves.specs.Wholes.{whole_entries};
@@ -12,7 +13,7 @@ use crate::bare::subitem_slots;
 use crate::laying::lay_octets;
 use crate::leading::has_counted;
 use crate::lost::{LostKey, Run};
-use crate::whole::{CodedItem, item_of};
+use crate::whole::{CodedCompound, CodedItem, item_of};
 use ax_codec::Node;
 use ax_fspec::Presence;
 use ax_walk::{ItemView, PlacedSlots, Places, place_subitems};
@@ -142,7 +143,7 @@ fn loses_nothing(item: &ItemView<'_, '_>, keys: &[LostKey<'_>], depth: usize) ->
     }
 }
 
-/// Lays the lines of keys that lead to an item. It has a table of places on its stack, and so stands apart.
+/// Lays the lines of keys that lead to an item.
 #[cycle(telling)]
 #[inline(never)]
 fn tell_inside(
@@ -162,19 +163,47 @@ fn tell_inside(
             if loses_nothing(&item.found.item, lost.keys, lost.depth) {
                 return at;
             }
-            let mut places = Places::new();
-            place_subitems(&item.found.item, &mut places);
-            let whole = PlacedSlots {
-                codec: item.codec,
-                slots: slots.as_slice(),
-                body: item.found.item.octets(),
-                at: 0,
-                places: &places,
-            };
-            tell_keys(&whole, lost, at, lines)
+            tell_subitems(
+                CodedCompound {
+                    item,
+                    slots: slots.as_slice(),
+                },
+                lost,
+                at,
+                lines,
+            )
         }
         _ => tell_parts(&item.found.item, lost, at, lines),
     }
+}
+
+/// Lays the lines of keys that lead to a compound. It has a table of places on its stack, which is set at each call, and so stands apart.
+#[cycle(telling)]
+#[inline(never)]
+fn tell_subitems(
+    compound: CodedCompound<'_, '_, '_>,
+    lost: &LostBelow<'_, '_>,
+    at: u32,
+    lines: &mut [u8],
+) -> u32
+    requires codec { compound.item.found.now.item.codec.now ≡ compound.item.codec.now }
+    requires compound { IsCompoundOf compound.item.found.now.item compound.slots.now }
+    requires runs { AreRuns lost.now.keys.now }
+    requires room { length lines.old ≡ 131067 }
+    ensures told { Gathers (lines_below lost.now (item_value compound.entry.item.found.now.item)) at result lines.old lines.new }
+    ensures room { length lines.new ≡ 131067 }
+{
+    let item = &compound.item.found.item;
+    let mut places = Places::new();
+    place_subitems(item, &mut places);
+    let whole = PlacedSlots {
+        codec: compound.item.codec,
+        slots: compound.slots,
+        body: item.octets(),
+        at: 0,
+        places: &places,
+    };
+    tell_keys(&whole, lost, at, lines)
 }
 
 /// Lays the lines of keys that lead to a record or a compound. Keys of one slot are passed over together where it isn't marked,

@@ -2,7 +2,7 @@
 ghost use Rattle.std.specs.Prelude.{◌≡◌, ◌++◌, false, length};
 ghost use Rattle.ax_fspec.specs.Marks.{slots_of};
 ghost use Rattle.ax_relation.specs.PlainMoves.{move_tree, moves_tree};
-ghost use Rattle.ax_moves.specs.Items.{moved_item};
+ghost use Rattle.ax_moves.specs.Items.{IsCompoundOf, moved_item};
 ghost use Rattle.ax_moves.specs.KnownMoves.{Knows, KnowsOf, KnowsBelow, places_canon};
 ghost use Rattle.ax_moves.specs.Laying.{Lays};
 ghost use Rattle.ax_moves.specs.Octets.{entries_canon_by, move_canon, whole_canon_by};
@@ -16,7 +16,7 @@ use crate::known_moves::{KnownBelow, KnownMoves};
 use crate::laying::{lay_field, lay_front, lay_item, lay_octets};
 use crate::marks::moved_slots;
 use crate::there::{moves_there, slots_there};
-use crate::whole::{CodedItem, item_of};
+use crate::whole::{CodedCompound, CodedItem, item_of};
 use ax_codec::Node;
 use ax_fspec::Presence;
 use ax_relation::{Move, Moves};
@@ -54,7 +54,7 @@ fn lay_value(
     lay_anew(item, one, known, at, output)
 }
 
-/// The same, slot by slot in a compound and part by part in an extended item. It has a table of places on its stack, and so stands apart.
+/// The same, slot by slot in a compound and part by part in an extended item.
 #[cycle(laying)]
 #[inline(never)]
 fn lay_anew(
@@ -73,16 +73,16 @@ fn lay_anew(
 {
     match item.found.item.node() {
         Node::Compound { slots, .. } => {
-            let mut places = Places::new();
-            place_subitems(&item.found.item, &mut places);
-            let whole = PlacedSlots {
-                codec: item.codec,
-                slots: slots.as_slice(),
-                body: item.found.item.octets(),
-                at: 0,
-                places: &places,
-            };
-            lay_whole(&whole, &one.below, known, at, output)
+            lay_subitems(
+                CodedCompound {
+                    item,
+                    slots: slots.as_slice(),
+                },
+                one,
+                known,
+                at,
+                output,
+            )
         }
         Node::Extended { parts, .. } => {
             let octets = item.found.item.octets();
@@ -96,6 +96,37 @@ fn lay_anew(
         }
         _ => lay_item(item.codec, &item.found.item, at, output),
     }
+}
+
+/// Lays the value of a compound as it moves, slot by slot. It has a table of places on its stack, which is set at each call, and so
+/// stands apart.
+#[cycle(laying)]
+#[inline(never)]
+fn lay_subitems(
+    compound: CodedCompound<'_, '_, '_>,
+    one: &Move,
+    known: &KnownMoves,
+    at: u32,
+    output: &mut [u8],
+) -> u32
+    requires codec { compound.item.found.now.item.codec.now ≡ compound.item.codec.now }
+    requires compound { IsCompoundOf compound.item.found.now.item compound.slots.now }
+    requires known { KnowsOf (move_tree one.now) known.now }
+    requires room { length output.old ≡ 131067 }
+    ensures laid { Lays (moved_item one.now compound.entry.item.found.now.item) at result output.old output.new }
+    ensures room { length output.new ≡ 131067 }
+{
+    let item = &compound.item.found.item;
+    let mut places = Places::new();
+    place_subitems(item, &mut places);
+    let whole = PlacedSlots {
+        codec: compound.item.codec,
+        slots: compound.slots,
+        body: item.octets(),
+        at: 0,
+        places: &places,
+    };
+    lay_whole(&whole, &one.below, known, at, output)
 }
 
 /// Lays the entries that move, after the presence field of their new slots.

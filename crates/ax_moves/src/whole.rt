@@ -15,6 +15,13 @@ pub struct CodedItem<'f, 'c, 'a> {
     pub found: &'f FoundItem<'c, 'a>,
 }
 
+/// A compound that was found, with its codec, and the links of its slots.
+#[derive(Clone, Copy)]
+pub(crate) struct CodedCompound<'f, 'c, 'a> {
+    pub(crate) item: CodedItem<'f, 'c, 'a>,
+    pub(crate) slots: &'f [u32],
+}
+
 /// The item of a slot. None comes exactly where it isn't marked.
 #[inline(always)]
 pub fn item_of<'c, 'a>(whole: &PlacedSlots<'_, 'c, 'a>, slot: u32) -> Option<FoundItem<'c, 'a>>

@@ -4,6 +4,7 @@ use Rattle.ax_migration.specs.Losing.{lost_lines}
 use Rattle.ax_moves.proofs.Slots.{placed_by, compound_node}
 use Rattle.ax_moves.proofs.TellingSteps.{KeysTold, all_told, compound_value, deeper, own_told, slot_runs, slot_skipped, slot_told}
 use Rattle.ax_moves.proofs.ToldLines.{gathers_none}
+use Rattle.ax_moves.specs.Items.{IsCompoundOf}
 use Rattle.ax_moves.specs.Laying.{Gathers}
 use Rattle.ax_moves.specs.Lost.{losses_below}
 use Rattle.ax_moves.specs.Wholes.{whole_entries}
@@ -15,13 +16,19 @@ use Rattle.ax_walk.specs.declared.places.FoundItem.{FoundItem}
 use Rattle.ax_moves.proofs.telling.+telling.Goals as goal
 use Rattle.ax_moves.proofs.telling.+telling.Goals.{tell_keys-in-Some-item_of, tell_keys-in_default-item_of}
 
-pub tell_inside-tell_keys-requires : goal.tell_inside-tell_keys-requires
-tell_inside-tell_keys-requires t c =
-    let item = c.args.item.found.now.item in
+pub tell_inside-tell_subitems-requires : goal.tell_inside-tell_subitems-requires
+tell_inside-tell_subitems-requires t c =
+    let compound : IsCompoundOf c.args.item.found.now.item c.as_slice.result.now = record { one = c.node.result.now; at = c.node.ensures; mask = c.in-Compound.mask; own = c.in-Compound.slots; is = c.in-Compound.is; same = sym c.as_slice.ensures.members } in
+    (search rules, (c.requires.codec, (compound, (c.requires.runs, c.requires.room))))
+
+pub tell_subitems-tell_keys-requires : goal.tell_subitems-tell_keys-requires
+tell_subitems-tell_keys-requires t c =
+    let item = c.args.compound.item.found.now.item in
     let own = item.codec.now in
-    let placed = placed_by _ own c.in-Compound.slots item.body.now 0 c.place_subitems.new.places (length item.body.now) c.requires.codec (sym c.as_slice.ensures.members) (sym c.octets.ensures.body) refl refl
-    (compound_links own.nodes item.link c.node.result.now own.table item.item.some item.item.within c.node.ensures c.in-Compound.mask c.in-Compound.slots c.in-Compound.slots c.in-Compound.is refl)
-    (c.place_subitems.ensures c.in-Compound.mask c.in-Compound.slots (compound_node own.nodes item.link c.node.result.now c.in-Compound.mask c.in-Compound.slots item.item.some item.item.within c.node.ensures c.in-Compound.is)) in
+    let k = c.requires.compound in
+    let placed = placed_by _ own k.own item.body.now 0 c.place_subitems.new.places (length item.body.now) c.requires.codec k.same (sym c.octets.ensures.body) refl refl
+    (compound_links own.nodes item.link k.one own.table item.item.some item.item.within k.at k.mask k.own k.own k.is refl)
+    (c.place_subitems.ensures k.mask k.own (compound_node own.nodes item.link k.one k.mask k.own item.item.some item.item.within k.at k.is)) in
     (search rules, (placed, (c.requires.runs, c.requires.room)))
 
 pub tell_inside-tell_parts-requires : goal.tell_inside-tell_parts-requires
@@ -33,10 +40,11 @@ tell_inside-tell_parts-requires t c =
       room = c.requires.room;
     }
 
-pub tell_inside-returns-else-loses_nothing-clause-told : goal.tell_inside-returns-else-loses_nothing-clause-told
-tell_inside-returns-else-loses_nothing-clause-told t c =
+pub tell_subitems-returns-clause-told : goal.tell_subitems-returns-clause-told
+tell_subitems-returns-clause-told t c =
+    let k = c.requires.compound in
     subst (λ v. Gathers (lost_lines c.args.lost.now.name.block (losses_below c.args.lost.now.name.number c.args.lost.now.depth v c.args.lost.now.keys.now)) c.args.at c.tell_keys.result c.args.lines.now c.tell_keys.new.lines)
-    (compound_value c.args.item.found.now.item c.node.result.now c.node.ensures c.in-Compound.mask c.in-Compound.slots c.as_slice.result.now c.octets.result.now c.args.item.codec.now c.in-Compound.is (sym c.as_slice.ensures.members) (sym c.octets.ensures.body) c.requires.codec)
+    (compound_value c.args.compound.item.found.now.item k.one k.at k.mask k.own c.args.compound.slots.now c.octets.result.now c.args.compound.item.codec.now k.is k.same (sym c.octets.ensures.body) c.requires.codec)
     c.tell_keys.ensures.told
 
 pub tell_keys-loop-index-preserved-in_default : goal.tell_keys-loop-index-preserved-in_default

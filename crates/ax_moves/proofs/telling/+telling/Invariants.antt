@@ -15,7 +15,10 @@ abbrev pub decreases-tell_keys-loop-index : goal.decreases-tell_keys-loop-index
 decreases-tell_keys-loop-index l = length l.lost.keys.now - l.index
 
 abbrev pub decreases-tell_keys : goal.decreases-tell_keys
-decreases-tell_keys l = 2 * (deepest l.lost.now.keys.now - l.lost.now.depth)
+decreases-tell_keys l = 3 * (deepest l.lost.now.keys.now - l.lost.now.depth)
 
 abbrev pub decreases-tell_inside : goal.decreases-tell_inside
-decreases-tell_inside l = 2 * (deepest l.lost.now.keys.now - l.lost.now.depth) + 1
+decreases-tell_inside l = 3 * (deepest l.lost.now.keys.now - l.lost.now.depth) + 2
+
+abbrev pub decreases-tell_subitems : goal.decreases-tell_subitems
+decreases-tell_subitems l = 3 * (deepest l.lost.now.keys.now - l.lost.now.depth) + 1

@@ -14,6 +14,7 @@ use Rattle.ax_moves.proofs.PlacesThere.{at_is, at_past, others_absent, place_lai
 use Rattle.ax_moves.specs.KnownMoves.{AreOthersAbsent, FindsEach, KnowsBelow, places_canon, places_marks}
 use Rattle.ax_moves.proofs.Slots.{placed_by, compound_node}
 use Rattle.ax_moves.proofs.ToldLines.{gathered_bits}
+use Rattle.ax_moves.specs.Items.{IsCompoundOf}
 use Rattle.ax_moves.specs.Laying.{Lays}
 use Rattle.ax_moves.specs.Octets.{field_by, entries_canon_by, move_canon}
 use Rattle.ax_moves.specs.Wholes.{whole_slots, whole_entries}
@@ -96,19 +97,26 @@ lay_entry-returns-in-None-clause-laid t c =
     nothing_laid (move_canon (move_tree c.args.one.now) (whole_slots c.args.whole.now) (whole_entries c.args.whole.now)) c.args.at c.args.output.now
     (nothing_moves c.args.one.now (whole_slots c.args.whole.now) (whole_entries c.args.whole.now) (sym c.item_of.ensures.value ∙ ap (option_map (λ (found : FoundItem). item_value found.item)) c.in-None.is)) c.ranges.at.fits
 
-pub lay_anew-lay_whole-requires : goal.lay_anew-lay_whole-requires
-lay_anew-lay_whole-requires t c =
-    let item = c.args.item.found.now.item in
-    let own = item.codec.now in
-    let placed = placed_by _ own c.in-Compound.slots item.body.now 0 c.place_subitems.new.places (length item.body.now) c.requires.codec (sym c.as_slice.ensures.members) (sym c.octets.ensures.body) refl refl
-    (compound_links own.nodes item.link c.node.result.now own.table item.item.some item.item.within c.node.ensures c.in-Compound.mask c.in-Compound.slots c.in-Compound.slots c.in-Compound.is refl)
-    (c.place_subitems.ensures c.in-Compound.mask c.in-Compound.slots (compound_node own.nodes item.link c.node.result.now c.in-Compound.mask c.in-Compound.slots item.item.some item.item.within c.node.ensures c.in-Compound.is)) in
-    (omega (arith, below_less c.args.one.now, c.decreases), (placed, (known_below c.args.one.now c.args.known.now c.requires.known, c.requires.room)))
+pub lay_anew-lay_subitems-requires : goal.lay_anew-lay_subitems-requires
+lay_anew-lay_subitems-requires t c =
+    let compound : IsCompoundOf c.args.item.found.now.item c.as_slice.result.now = record { one = c.node.result.now; at = c.node.ensures; mask = c.in-Compound.mask; own = c.in-Compound.slots; is = c.in-Compound.is; same = sym c.as_slice.ensures.members } in
+    (omega (arith, below_less c.args.one.now, c.decreases), (c.requires.codec, (compound, (c.requires.known, c.requires.room))))
 
-pub lay_anew-returns-in-Compound-clause-laid : goal.lay_anew-returns-in-Compound-clause-laid
-lay_anew-returns-in-Compound-clause-laid t c =
+pub lay_subitems-lay_whole-requires : goal.lay_subitems-lay_whole-requires
+lay_subitems-lay_whole-requires t c =
+    let item = c.args.compound.item.found.now.item in
+    let own = item.codec.now in
+    let k = c.requires.compound in
+    let placed = placed_by _ own k.own item.body.now 0 c.place_subitems.new.places (length item.body.now) c.requires.codec k.same (sym c.octets.ensures.body) refl refl
+    (compound_links own.nodes item.link k.one own.table item.item.some item.item.within k.at k.mask k.own k.own k.is refl)
+    (c.place_subitems.ensures k.mask k.own (compound_node own.nodes item.link k.one k.mask k.own item.item.some item.item.within k.at k.is)) in
+    (omega (arith, c.decreases), (placed, (known_below c.args.one.now c.args.known.now c.requires.known, c.requires.room)))
+
+pub lay_subitems-returns-clause-laid : goal.lay_subitems-returns-clause-laid
+lay_subitems-returns-clause-laid t c =
+    let k = c.requires.compound in
     subst (λ b. Lays b c.args.at c.lay_whole.result c.args.output.now c.lay_whole.new.output)
-    (compound_there c.args.item.found.now.item c.node.result.now c.node.ensures (out-Move c.args.one.now).parts (moves_tree (out-Move c.args.one.now).below) c.in-Compound.mask c.in-Compound.slots c.as_slice.result.now c.octets.result.now c.args.item.codec.now c.in-Compound.is (sym c.as_slice.ensures.members) (sym c.octets.ensures.body) c.requires.codec)
+    (compound_there c.args.compound.item.found.now.item k.one k.at (out-Move c.args.one.now).parts (moves_tree (out-Move c.args.one.now).below) k.mask k.own c.args.compound.slots.now c.octets.result.now c.args.compound.item.codec.now k.is k.same (sym c.octets.ensures.body) c.requires.codec)
     c.lay_whole.ensures.laid
 
 pub lay_anew-returns-in_default : goal.lay_anew-returns-in_default

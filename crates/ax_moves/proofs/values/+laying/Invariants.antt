@@ -1,5 +1,6 @@
 use Rattle.std.proofs.Common.{◌+◌, ◌*◌, length}
 use Rattle.ax_relation.specs.PlainMoves.{move_tree, moves_tree}
+use Rattle.ax_relation.specs.declared.moves.Move.{out-Move}
 use Rattle.ax_fspec.specs.Marks.{slots_of}
 use Rattle.ax_moves.proofs.Entries.{LaidSoFar}
 use Rattle.ax_moves.proofs.MoveSizes.{move_size, moves_size}
@@ -21,6 +22,9 @@ decreases-lay_value l = 6 * move_size (move_tree l.one.now) + 1
 
 abbrev pub decreases-lay_anew : goal.decreases-lay_anew
 decreases-lay_anew l = 6 * move_size (move_tree l.one.now)
+
+abbrev pub decreases-lay_subitems : goal.decreases-lay_subitems
+decreases-lay_subitems l = 6 * moves_size (moves_tree (out-Move l.one.now).below) + 5
 
 abbrev pub decreases-lay_whole : goal.decreases-lay_whole
 decreases-lay_whole l = 6 * moves_size (moves_tree l.moves.now) + 4

@@ -1,7 +1,7 @@
 use Rattle.std.proofs.Common.{subst}
 use Rattle.ax_migrate_views.proofs.Takings.{lines_never}
 use Rattle.ax_walk.specs.Views.{FailsThere}
-use Rattle.ax_migrate_views.proofs.block.report_losses.Goals as goal
+use Rattle.ax_migrate_views.proofs.block.report_again.Goals as goal
 
 pub returns-in-Err : goal.returns-in-Err
 returns-in-Err g c =

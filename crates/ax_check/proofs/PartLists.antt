@@ -3,15 +3,14 @@ use Rattle.std.proofs.Common.{◌≡◌, ℕ, ◌+◌, ◌-◌, ◌<◌, ◌≤�
 use Rattle.std.proofs.lemmas.List.{drop_all, length-map}
 use Rattle.ax_check.proofs.FlawLists.{members_same, names_same}
 use Rattle.ax_format.proofs.Namings.{from_place}
-use Rattle.ax_check.specs.Members.{part_flaws}
+use Rattle.ax_check.specs.Members.{extended_flaws, part_flaws}
 use Rattle.ax_check.specs.Names.{AreSame}
-use Rattle.ax_format.specs.Flaws.{flaw_where, is_no_multiple, is_too_wide, is_nothing, parts_flaws, names_with, kind_flaws}
+use Rattle.ax_format.specs.Flaws.{flaw_where, is_no_multiple, is_too_wide, is_nothing, parts_flaws, names_with}
 use Rattle.ax_format.specs.Paths.{at}
 use Rattle.ax_format.specs.Plain.{part_tree}
-use Rattle.ax_format.specs.Tree.{MembersTree, extended}
+use Rattle.ax_format.specs.Tree.{MembersTree}
 use Rattle.ax_format.specs.Widths.{members_width, fx_width}
 use Rattle.ax_format.specs.declared.flaw.Flaw.{Flaw}
-use Rattle.ax_format.specs.declared.flaw.FlawKind.{FlawKind}
 use Rattle.ax_format.specs.declared.flaw.FlawKind.TheVariants.{PartNotOctets, TooWide, Empty}
 use Rattle.ax_format.specs.declared.kind.LastPart.{LastPart}
 use Rattle.ax_format.specs.declared.kind.Part.{Part}
@@ -44,10 +43,10 @@ part_step last path n i others fx a b ps p found new all within is o f e s h =
     ap (λ l. l ++ parts_flaws last path (n + 1) b rest) own ∙ append_assoc found (part_flaws (fx_width last (length rest)) path n a (part_tree p)) (parts_flaws last path (n + 1) b rest)
     ∙ ap (λ l. found ++ (part_flaws (fx_width last (length rest)) path n a (part_tree p) ++ l)) (parts_same last path (n + 1) b (names_with a (part_tree p)) rest s) ∙ ap (λ l. found ++ l) (sym first) ∙ h
 
-pub part_end : (broken : FlawKind) (last : LastPart) (path : List ℕ) (n i : ℕ) (a : List (List ℕ)) (ps : List Part) (start found : List Flaw) → length ps ≤ i
+pub part_end : (last : LastPart) (path : List ℕ) (n i : ℕ) (a : List (List ℕ)) (ps : List Part) (start found : List Flaw) → length ps ≤ i
     → found ++ parts_flaws last path n a (map part_tree (drop i ps)) ≡ start ++ (flaw_where (length ps == 0) Empty path ++ parts_flaws last path 0 [] (map part_tree ps))
-    → found ≡ start ++ kind_flaws broken path (extended last (map part_tree ps))
-part_end broken last path n i a ps start found past h =
+    → found ≡ start ++ extended_flaws path last (map part_tree ps)
+part_end last path n i a ps start found past h =
     sym (append-nil found) ∙ ap (λ l. found ++ l) (sym (ap (λ x. parts_flaws last path n a (map part_tree x)) (drop_all i ps past))) ∙ h
     ∙ ap (λ m. start ++ (flaw_where (m == 0) Empty path ++ parts_flaws last path 0 [] (map part_tree ps))) (sym (length-map ps part_tree))
 

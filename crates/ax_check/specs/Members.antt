@@ -1,17 +1,21 @@
 -- The flaws of one member, slot or item after others, and the names that those after it see.
 use Rattle.std.specs.Prelude.{ℕ, ◌+◌, ◌==◌, nat_lt, length, map, decimal, List, [], ◌∷◌, ◌++◌, codes, true, if◌then◌else◌}
-use Rattle.ax_format.specs.Flaws.{flaw_where, is_among, is_bad_width, is_no_multiple, is_too_wide, is_nothing, fixed_flaws, items_flaws, members_flaws, kind_flaws, uap_flaws}
+use Rattle.ax_format.specs.Flaws.{flaw_where, is_among, is_bad_width, is_no_multiple, is_too_wide, is_nothing, fixed_flaws, items_flaws, members_flaws, kind_flaws, parts_flaws, uap_flaws}
 use Rattle.ax_format.specs.Paths.{at}
-use Rattle.ax_format.specs.Plain.{item_tree}
+use Rattle.ax_format.specs.Plain.{item_tree, part_tree}
 use Rattle.ax_format.specs.Specification.{ItemTree}
 use Rattle.ax_format.specs.Tree.{MembersTree, MemberTree, named, spare, SlotTree, spare_slot, subitem}
 use Rattle.ax_format.specs.Widths.{members_width}
 use Rattle.ax_format.specs.declared.flaw.Flaw.{Flaw}
 use Rattle.ax_format.specs.declared.flaw.FlawKind.TheVariants.{BadWidth, DuplicateName, DuplicateItem, NotOctets, PartNotOctets, TooWide, Empty, TooManySlots, RepeatedInUap, UnknownInUap}
+use Rattle.ax_format.specs.declared.kind.LastPart.{LastPart}
 use Rattle.ax_format.specs.declared.spec.Item.{Item}
 use Rattle.ax_format.specs.declared.spec.Spec.{Spec}
 use Rattle.ax_format.specs.declared.spec.UapSlot.{UapSlot}
 use Rattle.ax_format.specs.declared.spec.UapSlot.TheVariants as Uap
+use Rattle.ax_check.specs.Names.{listed}
+use Rattle.ax_check.specs.declared.kind_flaws.NumberedPart.{NumberedPart}
+use Rattle.ax_check.specs.declared.spec_flaws.UapPlace.{UapPlace}
 
 -- ---- members
 
@@ -31,6 +35,14 @@ part_flaws fx path i earlier p =
     flaw_where (is_no_multiple 8 (members_width p + fx)) PartNotOctets (at path (codes "part" ++ decimal i))
     ++ flaw_where (is_too_wide (members_width p)) TooWide (at path (codes "part" ++ decimal i))
     ++ flaw_where (is_nothing fx p) Empty (at path (codes "part" ++ decimal i)) ++ members_flaws path earlier p
+
+-- of that part below the path of its kind
+abbrev pub numbered_flaws : List ℕ → List (List ℕ) → NumberedPart → List Flaw
+numbered_flaws path earlier numbered = part_flaws numbered.fx path numbered.number earlier (part_tree numbered.part.now)
+
+-- of all parts of such a kind, of which there is one at least
+abbrev pub extended_flaws : List ℕ → LastPart → List MembersTree → List Flaw
+extended_flaws path last ps = flaw_where (length ps == 0) Empty path ++ parts_flaws last path 0 [] ps
 
 -- ---- how many slots a compound or the UAP has
 
@@ -56,6 +68,10 @@ item_flaws path earlier item = flaw_where (is_among item.name earlier) Duplicate
 abbrev pub uap_slot_flaws : List ℕ → List (List ℕ) → List (List ℕ) → UapSlot → List Flaw
 uap_slot_flaws path items earlier Uap.Spare = []
 uap_slot_flaws path items earlier (Uap.Item name) = if is_among name items then flaw_where (is_among name earlier) RepeatedInUap (at path name) else flaw_where true UnknownInUap (at path name)
+
+-- those of a slot of the UAP at that place
+abbrev pub placed_slot_flaws : UapPlace → List (List ℕ) → UapSlot → List Flaw
+placed_slot_flaws place earlier slot = uap_slot_flaws place.path.now (listed place.items.now.set) earlier slot
 
 abbrev pub with_uap_slot : List (List ℕ) → UapSlot → List (List ℕ)
 with_uap_slot earlier Uap.Spare = earlier

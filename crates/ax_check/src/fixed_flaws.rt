@@ -34,23 +34,20 @@ pub(crate) fn note(
     found.push(Flaw { kind, path })
 }
 
-/// The path of a name after others, which gain it. Where it is one of them, it has the flaw named.
+/// The path of a name after others, which gain it, and whether it is one of them.
 pub(crate) fn enter_at<'s>(
     alloc: Global,
-    found: &mut Flaws,
     path: &Text,
     names: &mut Names<'s>,
     name: &'s Name,
-    twice: FlawKind,
-) -> Result<Text, AllocError>
-    ensures path { IfOk result (λ made. made ≡ at path.now name.now) }
-    ensures flaws { OnOk result (found.new ≡ found.old ++ flaw_where (is_among name.now (listed names.old.set)) twice (at path.now name.now)) }
+) -> Result<(Text, bool), AllocError>
+    ensures path { IfOk result (λ made. made.0 ≡ at path.now name.now) }
+    ensures known { IfOk result (λ made. made.1 ≡ is_among name.now (listed names.old.set)) }
     ensures names { OnOk result (AreSame (listed names.new.set) (name.now ∷ listed names.old.set)) }
 {
     let known = enter(names, name)?;
     let path = at_name(alloc, path, name)?;
-    note(alloc, found, known, twice, &path)?;
-    Ok(path)
+    Ok((path, known))
 }
 
 fn has_bad_width(width: u32) -> bool
@@ -162,7 +159,8 @@ fn find_in_member<'s>(
             )
         }
         Member::Named { name, fixed } => {
-            let path = enter_at(alloc, found, path, names, name, FlawKind::DuplicateName)?;
+            let (path, known) = enter_at(alloc, path, names, name)?;
+            note(alloc, found, known, FlawKind::DuplicateName, &path)?;
             find_in_fixed(alloc, found, &path, fixed)
         }
     }

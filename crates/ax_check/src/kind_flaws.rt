@@ -2,9 +2,9 @@
 ghost use Rattle.std.specs.Prelude.{◌≡◌, ◌≤◌, ◌++◌, [], map, nat_lt, OnOk};
 ghost use Rattle.ax_format.specs.Flaws.{flaw_where, whole_flaws, parts_flaws, kind_flaws, slots_flaws, names_with, is_too_wide, is_nothing};
 ghost use Rattle.ax_format.specs.Plain.{fixed_tree, members_tree, part_tree, kind_tree, slot_tree, slots_tree};
-ghost use Rattle.ax_format.specs.Tree.{by_fx, extended, compound};
+ghost use Rattle.ax_format.specs.Tree.{by_fx, compound};
 ghost use Rattle.ax_format.specs.declared.flaw.FlawKind.TheVariants.{BodyNotOctets, TooWide};
-ghost use Rattle.ax_check.specs.Members.{count_flaws, part_flaws, slot_flaws, with_slot};
+ghost use Rattle.ax_check.specs.Members.{count_flaws, extended_flaws, numbered_flaws, slot_flaws, with_slot};
 ghost use Rattle.ax_check.specs.Names.{listed, AreSame};
 
 use crate::fixed_flaws::{enter_at, find_in_fixed, find_in_members, note};
@@ -20,19 +20,25 @@ const WIDEST: u64 = 524_256;
 /// The most slots of a compound or a UAP.
 const MOST_SLOTS: u32 = 126;
 
-/// The flaws of a width: the one named, where the test holds, and that of one past the longest body.
+/// A width in bits, and whether what has it breaks the rule that it is whole octets.
+#[derive(Clone, Copy)]
+struct Width {
+    bits: u64,
+    broken: bool,
+}
+
+/// The flaws of a width: the one named, where it breaks that rule, and that of one past the longest body.
 fn note_width(
     alloc: Global,
     found: &mut Flaws,
-    holds: bool,
-    broken: FlawKind,
-    width: u64,
+    width: Width,
+    kind: FlawKind,
     path: &Text,
 ) -> Result<(), AllocError>
-    ensures { OnOk result (found.new ≡ found.old ++ (flaw_where holds broken path.now ++ flaw_where (nat_lt 524256 width) TooWide path.now)) }
+    ensures { OnOk result (found.new ≡ found.old ++ (flaw_where width.broken kind path.now ++ flaw_where (nat_lt 524256 width.bits) TooWide path.now)) }
 {
-    note(alloc, found, holds, broken, path)?;
-    note(alloc, found, width > WIDEST, FlawKind::TooWide, path)
+    note(alloc, found, width.broken, kind, path)?;
+    note(alloc, found, width.bits > WIDEST, FlawKind::TooWide, path)
 }
 
 /// The flaws of a number of slots: there are none, or more than there may be.
@@ -65,8 +71,11 @@ fn find_in_whole(
 ) -> Result<(), AllocError>
     ensures { OnOk result (found.new ≡ found.old ++ whole_flaws broken path.now (fixed_tree fixed.now)) }
 {
-    let over = bits_over(fixed);
-    note_width(alloc, found, over != 0, broken, fixed.width(), path)?;
+    let width = Width {
+        bits: fixed.width(),
+        broken: bits_over(fixed) != 0,
+    };
+    note_width(alloc, found, width, broken, path)?;
     find_in_fixed(alloc, found, path, fixed)
 }
 
@@ -82,15 +91,11 @@ fn find_in_by_fx(
     ensures { OnOk result (found.new ≡ found.old ++ kind_flaws broken path.now (by_fx (fixed_tree fixed.now))) }
 {
     let body = at_body(alloc, path)?;
-    let (over, width) = (bits_over(fixed), fixed.width());
-    note_width(
-        alloc,
-        found,
-        over != 7,
-        FlawKind::BodyNotOctets,
-        width,
-        &body,
-    )?;
+    let width = Width {
+        bits: fixed.width(),
+        broken: bits_over(fixed) != 7,
+    };
+    note_width(alloc, found, width, FlawKind::BodyNotOctets, &body)?;
     find_in_fixed(alloc, found, &body, fixed)
 }
 
@@ -103,31 +108,34 @@ fn has_no_bit(part: &Part, fx: u32) -> bool
     fx == 0 && bare
 }
 
-/// The flaws of a part of that number with so many FX bits after parts whose members have these names, which gain its own.
+/// A part of an extended or closed kind: its number, from 0, and how many FX bits it has, none or one.
+#[derive(Clone, Copy)]
+pub(crate) struct NumberedPart<'s> {
+    part: &'s Part,
+    number: u32,
+    fx: u32,
+}
+
+/// The flaws of a part after parts whose members have these names, which gain its own.
 #[tactic(auto, using(crate::proofs::WholeFlaws::parts))]
 fn find_in_part<'s>(
     alloc: Global,
     found: &mut Flaws,
     path: &Text,
-    number: u32,
     names: &mut Names<'s>,
-    part: &'s Part,
-    fx: u32,
+    numbered: NumberedPart<'s>,
 ) -> Result<(), AllocError>
-    requires { fx ≤ 1 }
-    ensures flaws { OnOk result (found.new ≡ found.old ++ part_flaws fx path.now number (listed names.old.set) (part_tree part.now)) }
-    ensures names { OnOk result (AreSame (listed names.new.set) (names_with (listed names.old.set) (part_tree part.now))) }
+    requires { numbered.fx ≤ 1 }
+    ensures flaws { OnOk result (found.new ≡ found.old ++ numbered_flaws path.now (listed names.old.set) numbered.entry) }
+    ensures names { OnOk result (AreSame (listed names.new.set) (names_with (listed names.old.set) (part_tree numbered.entry.part.now))) }
 {
+    let NumberedPart { part, number, fx } = numbered;
     let place = at_part(alloc, path, number)?;
-    let (over, width) = (bits_over_members(&part.members), part.width());
-    note_width(
-        alloc,
-        found,
-        (over + fx) % 8 != 0,
-        FlawKind::PartNotOctets,
-        width,
-        &place,
-    )?;
+    let width = Width {
+        bits: part.width(),
+        broken: (bits_over_members(&part.members) + fx) % 8 != 0,
+    };
+    note_width(alloc, found, width, FlawKind::PartNotOctets, &place)?;
     note(alloc, found, has_no_bit(part, fx), FlawKind::Empty, &place)?;
     find_in_members(alloc, found, path, names, &part.members)
 }
@@ -137,12 +145,11 @@ fn find_in_part<'s>(
 fn find_in_parts(
     alloc: Global,
     found: &mut Flaws,
-    broken: FlawKind,
     path: &Text,
     last: LastPart,
     parts: &Parts,
 ) -> Result<(), AllocError>
-    ensures { OnOk result (found.new ≡ found.old ++ kind_flaws broken path.now (extended last (map part_tree parts.now))) }
+    ensures { OnOk result (found.new ≡ found.old ++ extended_flaws path.now last (map part_tree parts.now)) }
 {
     note(alloc, found, parts.count() == 0, FlawKind::Empty, path)?;
     let mut names = Names::new(alloc);
@@ -150,7 +157,8 @@ fn find_in_parts(
     for part in parts.as_slice() {
         let others = parts.count() - number - 1;
         let fx = last.fx_width(others as usize);
-        find_in_part(alloc, found, path, number, &mut names, part, fx)?;
+        let numbered = NumberedPart { part, number, fx };
+        find_in_part(alloc, found, path, &mut names, numbered)?;
         number += 1;
     }
     Ok(())
@@ -169,9 +177,7 @@ pub(crate) fn find_in_kind(
 {
     match kind {
         Kind::Fixed(fixed) => find_in_whole(alloc, found, broken, path, fixed),
-        Kind::Extended { last, parts } => {
-            find_in_parts(alloc, found, broken, path, *last, parts)
-        }
+        Kind::Extended { last, parts } => find_in_parts(alloc, found, path, *last, parts),
         Kind::Counted { inner, .. } => {
             let body = at_body(alloc, path)?;
             find_in_kind(alloc, found, FlawKind::BodyNotOctets, &body, inner)
@@ -197,7 +203,8 @@ fn find_in_slot<'s>(
     match slot {
         Slot::Spare => Ok(()),
         Slot::Sub { name, kind } => {
-            let path = enter_at(alloc, found, path, names, name, FlawKind::DuplicateName)?;
+            let (path, known) = enter_at(alloc, path, names, name)?;
+            note(alloc, found, known, FlawKind::DuplicateName, &path)?;
             find_in_kind(alloc, found, FlawKind::NotOctets, &path, kind)
         }
     }

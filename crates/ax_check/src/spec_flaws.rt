@@ -4,14 +4,14 @@ ghost use Rattle.ax_format.specs.Flaws.{items_flaws};
 ghost use Rattle.ax_format.specs.OfCode.{spec_flaws};
 ghost use Rattle.ax_format.specs.Paths.{at};
 ghost use Rattle.ax_format.specs.Plain.{item_tree};
-ghost use Rattle.ax_check.specs.Members.{item_flaws, uap_slot_flaws, with_uap_slot, item_names, lists_flaws, uap_part_flaws};
+ghost use Rattle.ax_check.specs.Members.{item_flaws, placed_slot_flaws, with_uap_slot, item_names, lists_flaws, uap_part_flaws};
 ghost use Rattle.ax_check.specs.Names.{listed, AreSame};
 
 use crate::fixed_flaws::{enter_at, note};
 use crate::kind_flaws::{find_in_kind, note_count};
-use crate::names::{Names, enter, has};
+use crate::names::{Names, has};
 use crate::texts::at_uap;
-use ax_format::{FlawKind, Flaws, Item, Items, Spec, Text, UapSlot, at_name, of_category};
+use ax_format::{FlawKind, Flaws, Item, Items, Spec, Text, UapSlot, of_category};
 use std::alloc::{AllocError, Global};
 
 /// The flaws of one item after others of these names, which gain its own.
@@ -26,7 +26,8 @@ fn find_in_item<'s>(
     ensures names { OnOk result (AreSame (listed names.new.set) (item.now.name ∷ listed names.old.set)) }
 {
     let name = &item.name;
-    let path = enter_at(alloc, found, path, names, name, FlawKind::DuplicateItem)?;
+    let (path, known) = enter_at(alloc, path, names, name)?;
+    note(alloc, found, known, FlawKind::DuplicateItem, &path)?;
     find_in_kind(alloc, found, FlawKind::NotOctets, &path, &item.kind)
 }
 
@@ -49,24 +50,29 @@ fn find_in_items<'s>(
     Ok(())
 }
 
+/// What the flaws of the slots of a UAP are told by: the path of the UAP, and the names of the items.
+#[derive(Clone, Copy)]
+pub(crate) struct UapPlace<'u, 's> {
+    path: &'u Text,
+    items: &'u Names<'s>,
+}
+
 /// The flaw of one named slot of the UAP, if it has one, after others of these names, which gain its own.
 fn find_in_uap_slot<'s>(
     alloc: Global,
     found: &mut Flaws,
-    path: &Text,
-    items: &Names<'s>,
+    uap: UapPlace<'_, 's>,
     names: &mut Names<'s>,
     slot: &'s UapSlot,
 ) -> Result<(), AllocError>
-    ensures flaws { OnOk result (found.new ≡ found.old ++ uap_slot_flaws path.now (listed items.now.set) (listed names.old.set) slot.now) }
+    ensures flaws { OnOk result (found.new ≡ found.old ++ placed_slot_flaws uap.entry (listed names.old.set) slot.now) }
     ensures names { OnOk result (AreSame (listed names.new.set) (with_uap_slot (listed names.old.set) slot.now)) }
 {
     match slot {
         UapSlot::Spare => Ok(()),
         UapSlot::Item(name) => {
-            let known = enter(names, name)?;
-            let path = at_name(alloc, path, name)?;
-            if has(items, name) {
+            let (path, known) = enter_at(alloc, uap.path, names, name)?;
+            if has(uap.items, name) {
                 note(alloc, found, known, FlawKind::RepeatedInUap, &path)
             } else {
                 note(alloc, found, true, FlawKind::UnknownInUap, &path)
@@ -88,9 +94,10 @@ fn find_in_uap<'s>(
     ensures { OnOk result (found.new ≡ found.old ++ uap_part_flaws path.now spec.now) }
 {
     note_count(alloc, found, spec.uap.count(), path)?;
+    let uap = UapPlace { path, items };
     let mut names = Names::new(alloc);
     for slot in spec.uap.as_slice() {
-        find_in_uap_slot(alloc, found, path, items, &mut names, slot)?;
+        find_in_uap_slot(alloc, found, uap, &mut names, slot)?;
     }
     Ok(())
 }

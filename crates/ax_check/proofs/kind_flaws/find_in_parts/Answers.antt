@@ -28,7 +28,7 @@ loop-part-init c =
 
 pub returns : goal.returns
 returns c =
-    part_end c.args.broken c.args.last c.args.path.now c.loop-part.number c.loop-part.part-index (listed c.loop-part.names.set) c.args.parts.now c.args.found.now c.loop-part.found (search rules) c.loop-part.invariant.1
+    part_end c.args.last c.args.path.now c.loop-part.number c.loop-part.part-index (listed c.loop-part.names.set) c.args.parts.now c.args.found.now c.loop-part.found (search rules) c.loop-part.invariant.1
 
 pub returns-in_err-note : goal.returns-in_err-note
 returns-in_err-note c = search rules

@@ -1,8 +1,8 @@
 //! The next line, buffered in a buffer.
-ghost use Rattle.std.specs.Prelude.{◌≡◌, ◌+◌, ◌≤◌, ◌<◌, ◌⊎◌, length, slice_range, vec_capacity};
+ghost use Rattle.std.specs.Prelude.{◌≡◌, ◌+◌, ◌≤◌, ◌⊎◌, length, vec_capacity};
 ghost use Rattle.ax_lines.specs.Feeds.{IsPlain};
-ghost use Rattle.ax_lines.specs.Reader.{read_ahead, OnLine, OnEnd, OnReadFault, UnlessReadFault, OnTooLong, FindsEnd, StopsInLine};
-ghost use Rattle.ax_lines.specs.Window.{HoldsNext};
+ghost use Rattle.ax_lines.specs.Reader.{read_ahead, OnLine, OnEnd, OnReadFault, UnlessReadFault, OnTooLong};
+ghost use Rattle.ax_lines.specs.Window.{held, StandsNext, FindsLimit, PassesInput, StopsWithin};
 ghost use Rattle.ax_endpoints.specs.Changes.{source_change};
 ghost use Rattle.ax_endpoints.specs.Told.{Rose};
 
@@ -20,46 +20,57 @@ pub struct BufferedLine {
     pub end: usize,
 }
 
-/// The next line of an input, of which the octets `start..end` of the buffer are taken already; None where none is left.
-///
-/// `given` octets of lines stand in front. The refusals are those of the reader.
+/// The octets `start..end` of a buffer, which are taken and stand in no line that was given.
+#[derive(Clone, Copy)]
+pub struct BufferWindow {
+    pub start: usize,
+    pub end: usize,
+}
+
+/// The limits on a line and on the whole input, in octets, and how many octets of it were given, line feeds included.
+#[derive(Clone, Copy)]
+pub struct LineLimits {
+    pub line: u32,
+    pub input: u64,
+    pub given: u64,
+}
+
+/// The next line of an input, of which the octets of the window are taken already; None where none is left. The refusals
+/// are those of the reader.
 #[tactic(auto, using(crate::proofs::NextLines::next_lines))]
 pub fn next_line<S: Source>(
     source: &mut S,
     buffer: &mut Vec<u8>,
-    start: usize,
-    end: usize,
-    line_limit: u32,
-    limit: u64,
-    given: u64,
+    window: BufferWindow,
+    limits: LineLimits,
 ) -> Result<Option<BufferedLine>, LineError>
-    requires window { start ≤ end }
-    requires within { end ≤ length buffer.old.items }
-    requires length { length buffer.old.items ≤ line_limit + read_ahead }
-    requires room { line_limit + read_ahead ≤ vec_capacity buffer.old }
-    requires in_limit { given ≤ limit }
-    ensures line { OnLine result (HoldsNext line_limit limit given (slice_range buffer.old.items start end) (source_change S.Source source.old source.new) buffer.new.items) }
-    ensures length { length buffer.new.items ≤ line_limit + read_ahead }
+    requires window { window.start ≤ window.end }
+    requires within { window.end ≤ length buffer.old.items }
+    requires length { length buffer.old.items ≤ limits.line + read_ahead }
+    requires room { limits.line + read_ahead ≤ vec_capacity buffer.old }
+    requires in_limit { limits.given ≤ limits.input }
+    ensures line { OnLine result (StandsNext limits (held window buffer.old.items) (source_change S.Source source.old source.new) buffer.new.items) }
+    ensures length { length buffer.new.items ≤ limits.line + read_ahead }
     ensures longer { length buffer.old.items ≤ length buffer.new.items }
-    ensures room { line_limit + read_ahead ≤ vec_capacity buffer.new }
-    ensures end { OnEnd result (FindsEnd line_limit limit given (slice_range buffer.old.items start end) (source_change S.Source source.old source.new)) }
-    ensures past_limit { OnTooLong result (limit + S.taken source.old < given + length (slice_range buffer.old.items start end) + S.taken source.new) }
-    ensures fault { OnReadFault result (StopsInLine line_limit limit given (slice_range buffer.old.items start end) (source_change S.Source source.old source.new)) }
-    ensures asks { IsPlain (slice_range buffer.old.items start end) ⊎ (source.new ≡ source.old) }
+    ensures room { limits.line + read_ahead ≤ vec_capacity buffer.new }
+    ensures end { OnEnd result (FindsLimit limits (held window buffer.old.items) (source_change S.Source source.old source.new)) }
+    ensures past_limit { OnTooLong result (PassesInput limits (held window buffer.old.items) (source_change S.Source source.old source.new)) }
+    ensures fault { OnReadFault result (StopsWithin limits (held window buffer.old.items) (source_change S.Source source.old source.new)) }
+    ensures asks { IsPlain (held window buffer.old.items) ⊎ (source.new ≡ source.old) }
     ensures rose { OnReadFault result (Rose (S.faults source.old) (S.faults source.new)) }
     ensures never_falls { S.faults source.old ≤ S.faults source.new }
     ensures once { S.faults source.new ≤ S.faults source.old + 1 }
     ensures quiet { UnlessReadFault result (S.faults source.new ≡ S.faults source.old) }
 {
-    let room = limit - given;
-    let most = room.min(line_limit as u64) as usize + 1;
-    let Ok(buffered) = hold_line(source, buffer, start, end, most) else {
+    let room = limits.input - limits.given;
+    let most = room.min(limits.line as u64) as usize + 1;
+    let Ok(buffered) = hold_line(source, buffer, window.start, window.end, most) else {
         return Err(LineError::ReadFault);
     };
     match judge(
         buffered.feed,
         buffered.end - buffered.start,
-        line_limit as u64,
+        limits.line as u64,
         room,
     ) {
         Ok(Some(cut)) => Ok(Some(BufferedLine {

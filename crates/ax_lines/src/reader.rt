@@ -2,7 +2,7 @@
 ghost use Rattle.std.specs.Prelude.{◌≡◌, IfOk, length};
 
 use crate::line_error::LineError;
-use crate::next_line::{BufferedLine, next_line};
+use crate::next_line::{BufferWindow, BufferedLine, LineLimits, next_line};
 use crate::reading::READ_AHEAD;
 use ax_endpoints::Source;
 use std::alloc::{AllocError, Global};
@@ -117,11 +117,15 @@ impl LineReader {
         match next_line(
             source,
             &mut self.buffer,
-            self.start,
-            self.end,
-            self.line_limit,
-            self.limit,
-            self.given,
+            BufferWindow {
+                start: self.start,
+                end: self.end,
+            },
+            LineLimits {
+                line: self.line_limit,
+                input: self.limit,
+                given: self.given,
+            },
         ) {
             Ok(Some(line)) => {
                 self.start = line.next;

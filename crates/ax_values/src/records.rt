@@ -10,7 +10,7 @@ ghost use Rattle.ax_fspec.specs.Reading.{Gets, IsMaskOf, SlotInBounds, is_subite
 ghost use Rattle.ax_values.specs.SlotReading.{HasFailed, IsSlotRead, HasSlotFailed, IsValueRead};
 
 use crate::error::DecodeError;
-use crate::kinds::decode_value;
+use crate::kinds::{BodyAt, decode_value};
 use ax_format::{Entries, Entry, Record, Spec};
 use ax_fspec::{Presence, SlotMask, read_presence};
 use std::alloc::Global;
@@ -80,7 +80,8 @@ fn decode_marked(
     let mut here = at;
     for index in 0..spec.uap.count() {
         if marked.has(index + 1) {
-            here = decode_item(alloc, spec, index + 1, body, here, &mut made)?;
+            let from = BodyAt { body, at: here };
+            here = decode_item(alloc, spec, index + 1, from, &mut made)?;
         }
     }
     Ok((made, here))
@@ -91,21 +92,20 @@ fn decode_item(
     alloc: Global,
     spec: &Spec,
     frn: u32,
-    body: &[u8],
-    at: u32,
+    from: BodyAt<'_>,
     into: &mut Entries,
 ) -> Result<u32, DecodeError>
     requires bounds { SlotInBounds (slot_of_frn frn spec.now) }
-    requires body { length body.now ≤ longest_body }
-    requires at { at ≤ length body.now }
+    requires body { length from.body.now ≤ longest_body }
+    requires at { from.at ≤ length from.body.now }
     requires room { length into.old < 126 }
-    ensures ok { IfOk result (λ end. IsSlotRead (slot_of_frn frn spec.now) frn body.now at end into.old into.new) }
-    ensures err { IfErr result (λ e. HasSlotFailed (slot_of_frn frn spec.now) body.now at e) }
+    ensures ok { IfOk result (λ end. IsSlotRead (slot_of_frn frn spec.now) frn from.entry.body.now from.entry.at end into.old into.new) }
+    ensures err { IfErr result (λ e. HasSlotFailed (slot_of_frn frn spec.now) from.entry.body.now from.entry.at e) }
 {
     let Some(item) = spec.slot(frn) else {
-        return Ok(at);
+        return Ok(from.at);
     };
-    let (value, end) = decode_value(alloc, &item.kind, body, at)?;
+    let (value, end) = decode_value(alloc, &item.kind, from.body, from.at)?;
     into.push(Entry { slot: frn, value })?;
     Ok(end)
 }

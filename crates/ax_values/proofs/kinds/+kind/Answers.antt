@@ -193,12 +193,12 @@ decode_value-returns-in_ok-entries-in-Compound-clause-ok t c = entries_got _ _ c
 pub decode_slot-returns-in_err-value-in-Sub-clause-err : goal.decode_slot-returns-in_err-value-in-Sub-clause-err
 decode_slot-returns-in_err-value-in-Sub-clause-err t c =
     let p = err_from_is_err_and c.from_residual.result c.from_residual.ensures.1 in
-    rw (p.1, p.2) (slot_failed (slot_tree c.args.slot.now) _ _ c.args.body.now c.args.at _ (sub_is c.args.slot.now _ _ c.in-Sub.is) c.in_err-value-in-Sub.ensures.err)
+    rw (p.1, p.2) (slot_failed (slot_tree c.args.slot.now) _ _ c.args.from.body.now c.args.from.at _ (sub_is c.args.slot.now _ _ c.in-Sub.is) c.in_err-value-in-Sub.ensures.err)
 
 pub decode_slot-returns-in_err-push-in-Sub-clause-err : goal.decode_slot-returns-in_err-push-in-Sub-clause-err
 decode_slot-returns-in_err-push-in-Sub-clause-err t c =
     let p = err_from_is_err_and c.from_residual-in_err-push-in-Sub.result c.from_residual-in_err-push-in-Sub.ensures.1 in
-    rw p.1 (slot_wants (slot_tree c.args.slot.now) _ _ c.args.body.now c.args.at _ (sub_is c.args.slot.now _ _ c.in-Sub.is) p.2)
+    rw p.1 (slot_wants (slot_tree c.args.slot.now) _ _ c.args.from.body.now c.args.from.at _ (sub_is c.args.slot.now _ _ c.in-Sub.is) p.2)
 
 pub decode_slot-returns-in_ok-push-in-Sub-clause-ok : goal.decode_slot-returns-in_ok-push-in-Sub-clause-ok
-decode_slot-returns-in_ok-push-in-Sub-clause-ok t c = slot_read (slot_tree c.args.slot.now) _ _ c.args.number c.in_ok-value-in-Sub.value c.args.body.now c.args.at _ _ _ (sub_is c.args.slot.now _ _ c.in-Sub.is) c.in_ok-value-in-Sub.ensures.ok c.in_ok-push-in-Sub.ensures.ok
+decode_slot-returns-in_ok-push-in-Sub-clause-ok t c = slot_read (slot_tree c.args.slot.now) _ _ c.args.number c.in_ok-value-in-Sub.value c.args.from.body.now c.args.from.at _ _ _ (sub_is c.args.slot.now _ _ c.in-Sub.is) c.in_ok-value-in-Sub.ensures.ok c.in_ok-push-in-Sub.ensures.ok

@@ -14,15 +14,15 @@ pub returns-in_err-value-clause-err : goal.returns-in_err-value-clause-err
 returns-in_err-value-clause-err c =
     let p = err_from_is_err_and c.from_residual.result c.from_residual.ensures.1 in
     let found : item_of_frn c.args.frn c.args.spec.now.uap c.args.spec.now.items ≡ Some c.in-Some.item.now = search rules in
-    rw (p.1, p.2) (slot_failed (slot_of_frn c.args.frn c.args.spec.now) _ _ c.args.body.now c.args.at _ (item_is c.args.spec.now c.args.frn c.in-Some.item.now found) c.in_err-value.ensures.err)
+    rw (p.1, p.2) (slot_failed (slot_of_frn c.args.frn c.args.spec.now) _ _ c.args.from.body.now c.args.from.at _ (item_is c.args.spec.now c.args.frn c.in-Some.item.now found) c.in_err-value.ensures.err)
 
 pub returns-in_err-push-clause-err : goal.returns-in_err-push-clause-err
 returns-in_err-push-clause-err c =
     let p = err_from_is_err_and c.from_residual-in_err-push.result c.from_residual-in_err-push.ensures.1 in
     let found : item_of_frn c.args.frn c.args.spec.now.uap c.args.spec.now.items ≡ Some c.in-Some.item.now = search rules in
-    rw p.1 (slot_wants (slot_of_frn c.args.frn c.args.spec.now) _ _ c.args.body.now c.args.at _ (item_is c.args.spec.now c.args.frn c.in-Some.item.now found) p.2)
+    rw p.1 (slot_wants (slot_of_frn c.args.frn c.args.spec.now) _ _ c.args.from.body.now c.args.from.at _ (item_is c.args.spec.now c.args.frn c.in-Some.item.now found) p.2)
 
 pub returns-clause-ok : goal.returns-clause-ok
 returns-clause-ok c =
     let found : item_of_frn c.args.frn c.args.spec.now.uap c.args.spec.now.items ≡ Some c.in-Some.item.now = search rules in
-    slot_read (slot_of_frn c.args.frn c.args.spec.now) _ _ c.args.frn c.in_ok-value.value c.args.body.now c.args.at _ _ _ (item_is c.args.spec.now c.args.frn c.in-Some.item.now found) c.in_ok-value.ensures.ok c.in_ok-push.ensures.ok
+    slot_read (slot_of_frn c.args.frn c.args.spec.now) _ _ c.args.frn c.in_ok-value.value c.args.from.body.now c.args.from.at _ _ _ (item_is c.args.spec.now c.args.frn c.in-Some.item.now found) c.in_ok-value.ensures.ok c.in_ok-push.ensures.ok

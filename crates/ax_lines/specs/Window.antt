@@ -27,8 +27,8 @@ abbrev pub StandsNext : LineLimits → List ℕ → SourceChange → List ℕ �
 StandsNext limits buffered i buffer line = HoldsNext limits.line limits.input limits.given buffered i buffer line
 
 -- that end of the lines comes next
-abbrev pub FindsLimit : LineLimits → List ℕ → SourceChange → LinedEnd → Type 0
-FindsLimit limits buffered i e = FindsEnd limits.line limits.input limits.given buffered i e
+abbrev pub FindsLineEnd : LineLimits → List ℕ → SourceChange → LinedEnd → Type 0
+FindsLineEnd limits buffered i e = FindsEnd limits.line limits.input limits.given buffered i e
 
 -- more octets were taken than the limit on the input
 abbrev pub PassesInput : LineLimits → List ℕ → SourceChange → Type 0

@@ -2,7 +2,7 @@
 ghost use Rattle.std.specs.Prelude.{◌≡◌, ◌+◌, ◌≤◌, ◌⊎◌, length, vec_capacity};
 ghost use Rattle.ax_lines.specs.Feeds.{IsPlain};
 ghost use Rattle.ax_lines.specs.Reader.{read_ahead, OnLine, OnEnd, OnReadFault, UnlessReadFault, OnTooLong};
-ghost use Rattle.ax_lines.specs.Window.{held, StandsNext, FindsLimit, PassesInput, StopsWithin};
+ghost use Rattle.ax_lines.specs.Window.{held, StandsNext, FindsLineEnd, PassesInput, StopsWithin};
 ghost use Rattle.ax_endpoints.specs.Changes.{source_change};
 ghost use Rattle.ax_endpoints.specs.Told.{Rose};
 
@@ -53,7 +53,7 @@ pub fn next_line<S: Source>(
     ensures length { length buffer.new.items ≤ limits.line + read_ahead }
     ensures longer { length buffer.old.items ≤ length buffer.new.items }
     ensures room { limits.line + read_ahead ≤ vec_capacity buffer.new }
-    ensures end { OnEnd result (FindsLimit limits (held window buffer.old.items) (source_change S.Source source.old source.new)) }
+    ensures end { OnEnd result (FindsLineEnd limits (held window buffer.old.items) (source_change S.Source source.old source.new)) }
     ensures past_limit { OnTooLong result (PassesInput limits (held window buffer.old.items) (source_change S.Source source.old source.new)) }
     ensures fault { OnReadFault result (StopsWithin limits (held window buffer.old.items) (source_change S.Source source.old source.new)) }
     ensures asks { IsPlain (held window buffer.old.items) ⊎ (source.new ≡ source.old) }

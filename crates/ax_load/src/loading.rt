@@ -8,7 +8,7 @@ ghost use Rattle.ax_endpoints.specs.Files.{HoldsFile};
 ghost use Rattle.ax_endpoints.specs.Told.{number_after};
 ghost use Rattle.ax_load.specs.Languages.{category_files};
 ghost use Rattle.ax_load.specs.FileAnswers.{largest_file};
-ghost use Rattle.ax_load.specs.Loading.{GivesSpec, HasNoOctets, StopsAtFile, FilesGive, FilesEnd};
+ghost use Rattle.ax_load.specs.Loading.{GivesSpec, HasNoOctets, StopsHere, OneStops, TookUpTo, FilesGive, FilesEnd};
 
 use crate::fault::{LoadStop, SpecFault};
 use crate::files::{FileStop, LARGEST_FILE, read_file};

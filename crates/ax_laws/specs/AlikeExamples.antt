@@ -32,7 +32,7 @@ many k = counted One k
 
 -- values of such kinds: two numbers with spare bits between them, occurrences, and compounds with their subitem and without
 abbrev pub with_spare : ℕ → ℕ → ℕ → ValueTree
-with_spare a spare b = member_values (values_of (number a ∷ number spare ∷ number b ∷ []))
+with_spare a between b = member_values (values_of (number a ∷ number between ∷ number b ∷ []))
 
 abbrev pub two_of : ℕ → ℕ → ValueTree
 two_of a b = occurrences (values_of (number a ∷ number b ∷ []))

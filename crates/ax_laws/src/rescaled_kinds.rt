@@ -6,7 +6,7 @@ ghost use Rattle.ax_format.specs.declared.content.Sign.TheVariants.{Unsigned, Si
 ghost use Rattle.ax_format.specs.declared.kind.LastPart.TheVariants.{WithFx, WithoutFx};
 ghost use Rattle.ax_rescale.specs.Alike.{is_alike};
 ghost use Rattle.ax_rescale.specs.Converted.{Converted};
-ghost use Rattle.ax_laws.specs.AlikeExamples.{pieces, signed_pieces, pair, in_a_part, subitems, many};
+ghost use Rattle.ax_laws.specs.AlikeExamples.{pieces, signed_pieces, pair, in_a_part, subitems, many, seconds, with_spare, two_of, one_and_none};
 
 /// A quantity may have another width, another sign and another scale, but no other unit.
 pub fn quantities_alike()

@@ -34,7 +34,7 @@ linked_on old new link h le = ap (λ ns. linked (meanings ns) link) h.grown ∙ 
 slot_on : (old new : List Node) (link : ℕ) → GoesOn old new → link ≤ length old → linked_slot (meanings new) link ≡ linked_slot (meanings old) link
 slot_on old new link h le = ap (λ ns. linked_slot (meanings ns) link) h.grown ∙ ap (λ ms. linked_slot ms link) (meanings_more old h.more) ∙ slot_front (meanings old) (newer (meanings old) h.more) link (omega (arith, meanings_count old))
 
-links_far : (m n : ℕ) (links : List ℕ) → m ≤ n → LinksWithin m links → LinksWithin n links
+pub links_far : (m n : ℕ) (links : List ℕ) → m ≤ n → LinksWithin m links → LinksWithin n links
 links_far m n [] le h = tt
 links_far m n (link ∷ links) le h = ((h.0.0, omega (arith, h.0.1)), links_far m n links le h.1)
 

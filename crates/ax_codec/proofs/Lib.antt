@@ -1,4 +1,5 @@
 pub mod Compiling
+pub mod ExtentSteps
 pub mod Growing
 pub mod NodeRowLists
 pub mod BareKinds

@@ -1,4 +1,5 @@
 pub mod Bare
+pub mod Extents
 pub mod Facts
 pub mod Making
 pub mod Meaning

@@ -5,9 +5,11 @@
 
 mod build;
 mod codec;
+mod extent;
 mod node;
 mod node_rows;
 
 pub use build::compile_spec;
 pub use codec::Codec;
+pub use extent::Extent;
 pub use node::{Links, Node, Nodes};

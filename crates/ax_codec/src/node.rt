@@ -6,9 +6,11 @@ ghost use Rattle.ax_rows.specs.Rows.{AreRows};
 ghost use Rattle.ax_lists.specs.Sizes.{list_bound};
 ghost use Rattle.ax_codec.specs.Octets.{octets_of};
 ghost use Rattle.ax_codec.specs.Meaning.{fixed_bits, part_bits};
+ghost use Rattle.ax_codec.specs.Extents.{AreExtents};
 ghost use Rattle.ax_codec.specs.NodeRows.{EachRows};
 ghost use Rattle.ax_codec.specs.Table.{IsTable};
 
+use crate::extent::{Extent, extents_of};
 use crate::node_rows::rows_of_compounds;
 use ax_format::{Counter, LastPart};
 use ax_fspec::SlotMask;
@@ -30,11 +32,14 @@ pub struct Nodes {
     rows: SlotRows,
     /// By node the rows of a compound's slots; of no slot where it is none, or has no rows.
     compounds: Vec<SlotRows>,
+    /// By node how far its values reach.
+    extents: Vec<Extent>,
 }
 
 impl Model for Nodes {
     ghost use Rattle.std.specs.Prelude.{◌≡◌, ◌<◌, List, length, map};
     ghost use Rattle.ax_rows.specs.Rows.{AreRowsOf};
+    ghost use Rattle.ax_codec.specs.Extents.{AreExtents};
     ghost use Rattle.ax_codec.specs.NodeRows.{EachRows};
     ghost use Rattle.ax_codec.specs.Octets.{octets_of};
     ghost use Rattle.ax_codec.specs.declared.node.Node.{Node};
@@ -44,7 +49,7 @@ impl Model for Nodes {
 
     ghost view = { λ n. n.items.items };
 
-    ghost invariant = { λ n. (length n.items.items < list_bound) × (n.octets.items ≡ map octets_of n.items.items) × AreRowsOf n.octets.items n.rows × EachRows n.octets.items n.items.items n.compounds.items };
+    ghost invariant = { λ n. (length n.items.items < list_bound) × (n.octets.items ≡ map octets_of n.items.items) × AreRowsOf n.octets.items n.rows × EachRows n.octets.items n.items.items n.compounds.items × AreExtents n.items.items n.extents.items };
 }
 
 impl Nodes {
@@ -57,6 +62,7 @@ impl Nodes {
             octets: Vec::new(alloc),
             rows: SlotRows::new(alloc),
             compounds: Vec::new(alloc),
+            extents: Vec::new(alloc),
         }
     }
 
@@ -106,6 +112,14 @@ impl Nodes {
         self.compounds.as_slice()
     }
 
+    /// How far the values of nodes reach, by node, for the first nodes.
+    #[inline]
+    pub fn extents(&self) -> &[Extent]
+        ensures { AreExtents self.now result.now }
+    {
+        self.extents.as_slice()
+    }
+
     /// Makes the rows of these slots, by which records of them are walked over, and those of compounds, as far as their rows have
     /// room.
     pub fn make_rows(&mut self, alloc: Global, slots: &[u32]) -> Result<(), AllocError>
@@ -115,8 +129,10 @@ impl Nodes {
     {
         let rows = SlotRows::of(alloc, self.octets.as_slice(), slots)?;
         let compounds = rows_of_compounds(alloc, self.items.as_slice(), self.octets.as_slice())?;
+        let extents = extents_of(alloc, self.items.as_slice(), self.octets.as_slice())?;
         self.rows = rows;
         self.compounds = compounds;
+        self.extents = extents;
         Ok(())
     }
 
@@ -128,6 +144,7 @@ impl Nodes {
     {
         self.rows.clear();
         self.compounds.clear();
+        self.extents.clear();
         self.octets.push(one.octets())?;
         if self.items.push(one).is_err() {
             let _ = self.octets.pop();

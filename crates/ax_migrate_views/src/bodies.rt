@@ -14,7 +14,7 @@ use crate::migrator::Migrator;
 use ax_format::BodyFault;
 use ax_moves::{LostKey, RecordName, SlotMoves, lay_moved, lay_run, tell_record};
 use ax_relation::Moves;
-use ax_walk::{Notes, PlacedSlots, Places, place_record};
+use ax_walk::{Notes, PlacedSlots, Places, RecordRows, place_record};
 
 /// Lays a record as it moves, and answers how many octets were laid.
 fn lay_record(
@@ -96,7 +96,7 @@ pub(crate) fn lay_body(
     let mut here = 0;
     // The octets from there up to `here` are those of records that stay, and still to be laid.
     let mut from = 0;
-    let rows = codec.nodes.rows_for(codec.slots.as_slice());
+    let rows = RecordRows::of(codec);
     while (here as usize) < body.len() {
         if let Some(next) = kept_end(codec, rows, kept, body, here) {
             here = next;

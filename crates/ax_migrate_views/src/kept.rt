@@ -1,19 +1,17 @@
 //! Records that stay as they are: those of which each item does, and of which nothing is lost.
-ghost use Rattle.std.specs.Prelude.{◌≡◌, ◌<◌, ◌≤◌, [], ◌∷◌, false, IsTrue, IfOk, IfSome, get_or, length, map};
+ghost use Rattle.std.specs.Prelude.{◌≡◌, ◌<◌, ◌≤◌, [], ◌∷◌, false, IsTrue, IfOk, IfSome, get_or, length};
 ghost use Rattle.ax_relation.specs.PlainMoves.{moves_tree};
 ghost use Rattle.ax_migrate_views.specs.Kept.{HasFewThere, IsElsewhere, IsKeptAt, IsPast, KeepsRecords, OfEach, OthersStay, ShortStay, StaysAll, StaysShort};
 ghost use Rattle.ax_format.specs.Sizes.{longest_body};
-ghost use Rattle.ax_rows.specs.Rows.{AreRows};
-ghost use Rattle.ax_codec.specs.Octets.{octets_of};
 ghost use Rattle.ax_codec.specs.Table.{IsTable, SlotLinksWithin};
 ghost use Rattle.ax_walk.specs.InPlace.{EndsField};
+ghost use Rattle.ax_walk.specs.RecordRows.{AreRecordRows};
 
 use ax_codec::{Codec, Node};
 use ax_fspec::{Presence, read_presence};
 use ax_moves::{LostKey, SLOTS, are_ordered, keeps, own_move};
 use ax_relation::{Move, Moves};
-use ax_rows::Rows;
-use ax_walk::{Notes, marked_item, record_by_rows};
+use ax_walk::{Notes, RecordRows, marked_item, record_by_rows};
 use std::alloc::{AllocError, Global};
 
 /// By what records are known to stay as they are.
@@ -197,12 +195,12 @@ fn is_short(
 #[inline]
 pub(crate) fn kept_end(
     codec: &Codec,
-    rows: Option<Rows<'_>>,
+    rows: RecordRows<'_>,
     kept: &KeptSlots,
     body: &[u8],
     at: u32,
 ) -> Option<u32>
-    requires rows { IfSome rows (λ rows. AreRows (map octets_of codec.now.nodes) codec.now.slots rows.start.now rows.steps.now) }
+    requires rows { AreRecordRows codec.now rows }
     requires short { length kept.now.short.items ≡ 127 }
     requires body { length body.now ≤ longest_body }
     requires at { at ≤ length body.now }

@@ -120,9 +120,7 @@ pub fn write_front(category: u8, length: u16, out: &mut Out<'_>)
     ensures written { Appends out.old out.new (word 8 category ++ word 16 length) }
     ensures octet { category < 256 }
 {
-    out.push_octet(category);
-    out.push_octet((length / 256) as u8);
-    out.push_octet((length % 256) as u8);
+    out.push_octets(&[category, (length / 256) as u8, (length % 256) as u8]);
 }
 
 fn write_octets(octets: &[u8], out: &mut Out<'_>)

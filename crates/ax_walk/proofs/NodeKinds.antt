@@ -129,7 +129,7 @@ node_there [] i lt = absurd (omega arith)
 node_there (n ∷ ns) zero lt = record { one = n; at = refl; octets = refl }
 node_there (n ∷ ns) (suc i) lt = let t = node_there ns i (omega arith) in record { one = t.one; at = t.at; octets = t.octets }
 
-whole_of : (w n : ℕ) (b : Bool) → (w % 8 == 0) ≡ b → cond b (w / 8) 0 ≡ n → 0 < n → w ≡ 8 * n
+pub whole_of : (w n : ℕ) (b : Bool) → (w % 8 == 0) ≡ b → cond b (w / 8) 0 ≡ n → 0 < n → w ≡ 8 * n
 whole_of w n true e h some = omega (arith, eqb-true (w % 8) 0 e)
 whole_of w n false e h some = absurd (omega arith)
 

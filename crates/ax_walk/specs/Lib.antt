@@ -5,6 +5,7 @@ pub mod Noted
 pub mod Pieces
 pub mod Plain
 pub mod Placing
+pub mod RecordRows
 pub mod RecordsAt
 pub mod Rows
 pub mod Shown

@@ -1,5 +1,5 @@
 -- What a walk over marked slots meets, from its start on.
-use Rattle.std.specs.Prelude.{◌≡◌, ℕ, ◌+◌, ◌-◌, ◌*◌, Bool, false, true, List, ◌++◌, take, drop, get_or}
+use Rattle.std.specs.Prelude.{ℕ, ◌+◌, ◌-◌, ◌*◌, Bool, false, true, List, ◌++◌, take, drop, get_or}
 use Rattle.ax_fspec.specs.Marks.{seven}
 use Rattle.ax_fspec.specs.Reading.{FailsAt, entries_at}
 use Rattle.ax_format.specs.Presence.{NoneUndefined}
@@ -14,6 +14,7 @@ use Rattle.ax_codec.specs.NodeRows.{node_slots}
 use Rattle.ax_codec.specs.Table.{kind_at, record_kind_at}
 use Rattle.ax_codec.specs.declared.codec.Codec.{Codec}
 use Rattle.ax_codec.specs.declared.node.Node.{Node}
+use Rattle.ax_codec.specs.declared.node.Node.TheVariants as Of
 use Rattle.ax_walk.specs.InPlace.{FollowsEntries}
 use Rattle.ax_walk.specs.Left.{Occurrence}
 use Rattle.ax_walk.specs.Placing.{PlacesEntries, window_value}
@@ -65,9 +66,13 @@ placed_value p slot w = window_value p.codec.now.nodes p.slots.now p.body.now sl
 
 -- ---- rows
 
+-- the links of the slots of a compound that the link leads to
+abbrev pub slots_under : List Node → ℕ → List ℕ
+slots_under nodes link = node_slots (get_or nodes (link - 1) Of.Explicit)
+
 -- rows of the slots of the node that the link leads to
 abbrev pub AreRowsAt : Table → ℕ → Rows → Type 0
-AreRowsAt table link rows = (one : Node) → one ≡ get_or table.nodes.now (link - 1) one → AreRows table.octets.now (node_slots one) rows.start.now rows.steps.now
+AreRowsAt table link rows = AreRows table.octets.now (slots_under table.nodes.now link) rows.start.now rows.steps.now
 
 -- each octet of the presence field has a row
 abbrev pub FieldHasRows : Slots → Field → Type 0

@@ -46,19 +46,19 @@ fn walk_row<W: ValueWalk>(
     let steps = row.steps;
     let mut here = start.at;
     let mut place = row.first as usize;
-    while place < steps.len() {
+    loop {
         let step = steps[place];
-        if step.skip as usize > body.len() - here as usize {
+        let next = here as u64 + step.skip as u64;
+        if next > body.len() as u64 {
             return None;
         }
-        here += step.skip;
+        here = next as u32;
         if step.link == 0 {
             return Some(here);
         }
         here = values.walk_value(slots.table, step.link, Start { body, at: here }, notes)?;
         place += 1;
     }
-    None
 }
 
 /// The octet after the values of the slots that a presence field marks, by the rows of its octets. None says nothing.
@@ -150,8 +150,6 @@ pub fn items_by_rows(codec: &Codec, body: &[u8], at: u32, notes: &mut Notes) -> 
     let rows = codec.nodes.rows_for(slots.links)?;
     let start = Start { body, at };
     let octets = field_octets(start, codec.mask.count)?;
-    let values = ByRows {
-        compounds: codec.nodes.compound_rows(),
-    };
+    let values = ByRows::of(codec);
     walk_rows(&values, slots, rows, Field { start, octets }, notes)
 }

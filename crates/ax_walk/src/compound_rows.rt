@@ -2,19 +2,20 @@
 ghost use Rattle.std.specs.Prelude.{◌<◌, ◌≤◌, length, IfSome, IfNone, IsTrue};
 ghost use Rattle.ax_format.specs.InBounds.{InBounds};
 ghost use Rattle.ax_format.specs.Sizes.{longest_body};
-ghost use Rattle.ax_rows.specs.Rows.{AreRows};
 ghost use Rattle.ax_codec.specs.NodeRows.{EachRows};
 ghost use Rattle.ax_codec.specs.Table.{kind_at};
-ghost use Rattle.ax_walk.specs.Marked.{AreRowsAt, slots_kind};
+ghost use Rattle.ax_walk.specs.Marked.{AreRowsAt};
+ghost use Rattle.ax_walk.specs.RecordRows.{AreValueRows};
 ghost use Rattle.ax_walk.specs.Walking.{WalksKind, WalksFrom, FailsFrom};
 
 use crate::by_rows::walk_by_rows;
+use crate::extents::extent_end;
 use crate::notes::Notes;
 use crate::octets::{note_field, octets_end, walk_node};
 use crate::start::{Start, are_octets};
 use crate::table::{Slots, Table};
 use crate::value_walk::{ByNodes, ValueWalk};
-use ax_codec::Node;
+use ax_codec::{Codec, Extent, Node};
 use ax_rows::{NO_ROW, Rows, SlotRows};
 
 /// The rows of a node's slots. None comes where it has none.
@@ -36,16 +37,19 @@ fn compound_rows<'r>(table: Table<'_>, compounds: &'r [SlotRows], link: u32) -> 
     Some(rows.as_rows())
 }
 
-/// The octet after a compound of these slots, by their rows, where each marked one has fixed octets. None says nothing.
+/// The octet after a compound, by the rows of its slots, where each marked one has fixed octets. None says nothing.
 #[inline(always)]
 fn skip_compound(
-    slots: Slots<'_>,
+    table: Table<'_>,
+    link: u32,
     rows: Rows<'_>,
     start: Start<'_>,
     notes: &mut Notes,
 ) -> Option<u32>
-    requires { AreRows slots.table.octets.now slots.links.now rows.start.now rows.steps.now }
-    ensures end { IfSome result (λ end. WalksFrom (slots_kind slots.entry) start.entry end notes.new.least) }
+    requires link { (0 < link) × (link ≤ length table.nodes.now) }
+    requires bounds { InBounds (kind_at table.nodes.now link) }
+    requires rows { AreRowsAt table link rows }
+    ensures end { IfSome result (λ end. WalksFrom (kind_at table.entry.nodes.now link) start.entry end notes.new.least) }
     ensures falls { IsTrue notes.new.least → IsTrue notes.old.least }
 {
     let body = start.body;
@@ -82,42 +86,31 @@ fn skip_compound(
     None
 }
 
-/// The octet after a compound of these slots that begins at octet `at`, by their rows. None says nothing. Inlined into the loops over
+/// The octet after a compound that begins at octet `at`, by the rows of its slots. None says nothing. Inlined into the loops over
 /// records it would take their registers; as it isn't, the body and the octet are passed by themselves, not through memory.
 #[inline(never)]
 fn walk_subitems(
-    slots: Slots<'_>,
+    table: Table<'_>,
+    link: u32,
     rows: Rows<'_>,
     body: &[u8],
     at: u32,
     notes: &mut Notes,
 ) -> Option<u32>
-    requires rows { AreRows slots.table.octets.now slots.links.now rows.start.now rows.steps.now }
+    requires link { (0 < link) × (link ≤ length table.nodes.now) }
+    requires bounds { InBounds (kind_at table.nodes.now link) }
+    requires rows { AreRowsAt table link rows }
     requires body { length body.now ≤ longest_body }
     requires at { at ≤ length body.now }
-    ensures end { IfSome result (λ end. WalksKind (slots_kind slots.entry) body.now at end notes.new.least) }
+    ensures end { IfSome result (λ end. WalksKind (kind_at table.entry.nodes.now link) body.now at end notes.new.least) }
     ensures falls { IsTrue notes.new.least → IsTrue notes.old.least }
 {
+    let Node::Compound { mask, slots } = &table.nodes[link as usize - 1] else {
+        return None;
+    };
+    let links = slots.as_slice();
+    let slots = Slots { table, mask, links };
     walk_by_rows(&ByNodes, slots, rows, Start { body, at }, notes)
-}
-
-/// The octet after a compound of these slots, by their rows. None says nothing.
-#[inline(always)]
-fn walk_compound_by_rows(
-    slots: Slots<'_>,
-    rows: Rows<'_>,
-    start: Start<'_>,
-    notes: &mut Notes,
-) -> Option<u32>
-    requires { AreRows slots.table.octets.now slots.links.now rows.start.now rows.steps.now }
-    ensures end { IfSome result (λ end. WalksFrom (slots_kind slots.entry) start.entry end notes.new.least) }
-    ensures falls { IsTrue notes.new.least → IsTrue notes.old.least }
-{
-    let end = skip_compound(slots, rows, start, notes);
-    if end.is_some() {
-        return end;
-    }
-    walk_subitems(slots, rows, start.body, start.at, notes)
 }
 
 /// The octet after an item: a compound is walked over by its rows, if it has some, and what these decline is judged by nodes.
@@ -136,17 +129,17 @@ pub(crate) fn walk_variable(
     ensures fault { IfNone result (FailsFrom (kind_at table.entry.nodes.now link) start.entry notes.new.fault) }
     ensures falls { IsTrue notes.new.least → IsTrue notes.old.least }
 {
-    if let Node::Compound { mask, slots } = &table.nodes[link as usize - 1] {
-        let links = slots.as_slice();
-        if let Some(rows) = compound_rows(table, compounds, link) {
-            let before = notes.least;
-            let slots = Slots { table, mask, links };
-            let end = walk_compound_by_rows(slots, rows, start, notes);
-            if end.is_some() {
-                return end;
-            }
-            notes.least = before;
+    if let Some(rows) = compound_rows(table, compounds, link) {
+        let before = notes.least;
+        let end = skip_compound(table, link, rows, start, notes);
+        if end.is_some() {
+            return end;
         }
+        let end = walk_subitems(table, link, rows, start.body, start.at, notes);
+        if end.is_some() {
+            return end;
+        }
+        notes.least = before;
     }
     walk_node(table.nodes, link, start, notes)
 }
@@ -173,14 +166,30 @@ pub(crate) fn walk_record_item(
     walk_variable(table, compounds, link, start, notes)
 }
 
-/// Walks over compounds by their rows, and over the rest by the nodes.
-#[derive(Drop)]
+/// Walks over compounds by their rows, over values whose octets tell where they end without their nodes, and over the rest by these.
+#[derive(Clone, Copy)]
 pub(crate) struct ByRows<'r> {
     pub(crate) compounds: &'r [SlotRows],
+    pub(crate) extents: &'r [Extent],
+}
+
+impl<'r> ByRows<'r> {
+    /// That of a codec.
+    #[inline(always)]
+    pub(crate) fn of(codec: &'r Codec) -> ByRows<'r>
+        ensures { AreValueRows codec.now result }
+    {
+        ByRows {
+            compounds: codec.nodes.compound_rows(),
+            extents: codec.nodes.extents(),
+        }
+    }
 }
 
 impl ValueWalk for ByRows<'_> {
-    ghost fits = { λ s nodes octets. EachRows octets nodes s.compounds.now };
+    ghost use Rattle.ax_codec.specs.Extents.{AreExtents};
+
+    ghost fits = { λ s nodes octets. EachRows octets nodes s.compounds.now × AreExtents nodes s.extents.now };
 
     #[inline(always)]
     fn walk_value(
@@ -190,6 +199,13 @@ impl ValueWalk for ByRows<'_> {
         start: Start<'_>,
         notes: &mut Notes,
     ) -> Option<u32> {
+        let place = link as usize - 1;
+        if place < self.extents.len() {
+            let end = extent_end(self.extents[place], start);
+            if end.is_some() {
+                return end;
+            }
+        }
         walk_variable(table, self.compounds, link, start, notes)
     }
 }

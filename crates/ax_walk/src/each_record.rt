@@ -1,23 +1,22 @@
 //! The next record of a body.
-ghost use Rattle.std.specs.Prelude.{◌≡◌, ◌≤◌, length, map, IfSome, IfNone};
+ghost use Rattle.std.specs.Prelude.{◌≡◌, ◌≤◌, length, IfSome, IfNone};
 ghost use Rattle.std.specs.Iterator.{YieldsFirstBy, item_count};
 ghost use Rattle.ax_format.specs.Sizes.{longest_body};
 ghost use Rattle.ax_fspec.specs.Reading.{FailsAt, kind_read};
-ghost use Rattle.ax_rows.specs.Rows.{AreRows};
-ghost use Rattle.ax_codec.specs.Octets.{octets_of};
 ghost use Rattle.ax_codec.specs.Table.{record_kind_at};
 ghost use Rattle.ax_walk.specs.Left.{record_shown, records_left};
 ghost use Rattle.ax_walk.specs.Noted.{IsLeastRecord};
+ghost use Rattle.ax_walk.specs.RecordRows.{AreRecordRows};
 ghost use Rattle.ax_walk.specs.RecordsAt.{IsRecordAt, IsNoRecord};
 
 use crate::notes::Notes;
 use crate::octets::walk_with;
 use crate::record::RecordView;
+use crate::record_rows::RecordRows;
 use crate::records::Records;
 use crate::start::Start;
 use crate::windows::octets_from;
 use ax_codec::Codec;
-use ax_rows::Rows;
 
 /// The record that begins at octet `at`, and the octet after it. None comes exactly where none can be read there.
 pub fn record_at<'c, 'a>(
@@ -50,20 +49,19 @@ pub fn record_noted<'c, 'a>(
     ensures least { IfSome result (λ r. IsLeastRecord codec.now r.0.body.now notes.new.least) }
     ensures fault { IfNone result (FailsAt (kind_read (record_kind_at codec.now.nodes codec.now.slots) body.now at) at notes.new.fault) }
 {
-    let rows = codec.nodes.rows_for(codec.slots.as_slice());
-    record_by_rows(codec, rows, body, at, notes)
+    record_by_rows(codec, RecordRows::of(codec), body, at, notes)
 }
 
 /// The same, with the rows of the codec's records, if there are some: a loop over records looks for them once.
 #[inline(always)]
 pub fn record_by_rows<'c, 'a>(
     codec: &'c Codec,
-    rows: Option<Rows<'_>>,
+    rows: RecordRows<'_>,
     body: &'a [u8],
     at: u32,
     notes: &mut Notes,
 ) -> Option<(RecordView<'c, 'a>, u32)>
-    requires rows { IfSome rows (λ rows. AreRows (map octets_of codec.now.nodes) codec.now.slots rows.start.now rows.steps.now) }
+    requires rows { AreRecordRows codec.now rows }
     requires body { length body.now ≤ longest_body }
     requires at { at ≤ length body.now }
     ensures some { IfSome result (λ r. IsRecordAt codec.now body.now at r.1 r.0.body.now) }

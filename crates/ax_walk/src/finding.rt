@@ -32,7 +32,7 @@ const EARLY: u32 = 7;
 
 /// The value of a slot in octets that spell a value of these slots, in its own place there: after the presence field and
 /// the values of the marked slots before. None comes exactly where the slot isn't marked.
-#[inline]
+#[inline(always)]
 pub(crate) fn find<'c, 'a>(
     codec: &'c Codec,
     mask: &SlotMask,
@@ -53,6 +53,26 @@ pub(crate) fn find<'c, 'a>(
             return find_early(codec, slots, body, at, slot);
         }
     }
+    find_late(codec, mask, slots, body, slot)
+}
+
+/// The same, by the whole presence field.
+#[inline(never)]
+fn find_late<'c, 'a>(
+    codec: &'c Codec,
+    mask: &SlotMask,
+    slots: &[u32],
+    body: &'a [u8],
+    slot: u32,
+) -> Option<ItemView<'c, 'a>>
+    requires links { SlotLinksWithin (length codec.now.nodes) slots.now }
+    requires mask { IsMaskOf (linked_slots (meanings codec.now.nodes) slots.now) mask.now }
+    requires bounds { InBounds (record_kind_at codec.now.nodes slots.now) }
+    requires one { IsOne (record_kind_at codec.now.nodes slots.now) body.now }
+    ensures value { option_map item_value result ≡ slot_value slot (entries_in (value_in (record_kind_at codec.now.nodes slots.now) body.now)) }
+    ensures place { IfSome result (IsOfSlot codec.now slots.now slot) }
+    ensures window { IfSome result (λ item. StandsInPlace codec.now.nodes slots.now slot body.now item.body.now) }
+{
     let mut marked = Presence::empty();
     match read_presence(mask, body, 0, &mut marked) {
         Ok(here) => find_marked(codec, slots, marked, Start { body, at: here }, slot),
@@ -72,7 +92,7 @@ fn marks_slot(octet: u8, slot: u32) -> bool
 
 /// The same for a slot of the first presence octet, where the first item begins at octet `at`: that octet alone is looked at, and it
 /// isn't judged again.
-#[inline]
+#[inline(always)]
 fn find_early<'c, 'a>(
     codec: &'c Codec,
     slots: &[u32],

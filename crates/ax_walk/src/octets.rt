@@ -1,26 +1,24 @@
 //! The walk over a body's octets by the nodes of a table.
-ghost use Rattle.std.specs.Prelude.{◌≡◌, ◌+◌, ◌-◌, ◌*◌, ◌%◌, ◌<◌, ◌≤◌, length, map, get_or, IfSome, IfNone, Bool, IsTrue};
+ghost use Rattle.std.specs.Prelude.{◌≡◌, ◌+◌, ◌-◌, ◌*◌, ◌%◌, ◌<◌, ◌≤◌, length, get_or, IfSome, IfNone, Bool, IsTrue};
 ghost use Rattle.ax_bits.specs.Bits.{AreBits};
 ghost use Rattle.ax_format.specs.InBounds.{InBounds};
 ghost use Rattle.ax_format.specs.Sizes.{longest_body};
 ghost use Rattle.ax_format.specs.Tree.{counted};
-ghost use Rattle.ax_rows.specs.Rows.{AreRows};
-ghost use Rattle.ax_codec.specs.Octets.{octets_of};
 ghost use Rattle.ax_codec.specs.Table.{IsTable, IsRecordTable, LinksWithin, kind_at, record_kind_at};
 ghost use Rattle.ax_walk.specs.Marked.{MarksDefined, WalksMarked, FailsMarked, slots_kind};
+ghost use Rattle.ax_walk.specs.RecordRows.{AreRecordRows};
 ghost use Rattle.ax_walk.specs.Rows.{AreSlots};
 ghost use Rattle.ax_walk.specs.Walking.{WalksKind, FailsKind, WalksFrom, FailsFrom, NeedsLast, parts_kind};
 
 use crate::by_rows::walk_by_rows;
-use crate::compound_rows::ByRows;
 use crate::notes::{Notes, fail};
+use crate::record_rows::RecordRows;
 use crate::start::{Start, are_octets};
 use crate::table::{Slots, Table};
 use crate::units::{first_part_end, run, walk_explicit, walk_parts, walk_run};
 use ax_codec::{Codec, Node};
 use ax_format::{BodyCause, Counter, LastPart};
 use ax_fspec::{Presence, SlotMask, count_at, read_presence, run_end};
-use ax_rows::Rows;
 
 /// The octet after the record that begins at octet `at`.
 #[inline]
@@ -31,8 +29,7 @@ pub fn walk_record(codec: &Codec, body: &[u8], at: u32, notes: &mut Notes) -> Op
     ensures fault { IfNone result (FailsKind (record_kind_at codec.now.nodes codec.now.slots) body.now at notes.new.fault) }
     ensures falls { IsTrue notes.new.least → IsTrue notes.old.least }
 {
-    let rows = codec.nodes.rows_for(codec.slots.as_slice());
-    walk_with(codec, rows, Start { body, at }, notes)
+    walk_with(codec, RecordRows::of(codec), Start { body, at }, notes)
 }
 
 /// The same, with the rows of the codec's records, if there are some: what is by rows declined is judged by nodes, from the record's
@@ -40,28 +37,24 @@ pub fn walk_record(codec: &Codec, body: &[u8], at: u32, notes: &mut Notes) -> Op
 #[inline(always)]
 pub(crate) fn walk_with(
     codec: &Codec,
-    rows: Option<Rows<'_>>,
+    rows: RecordRows<'_>,
     start: Start<'_>,
     notes: &mut Notes,
 ) -> Option<u32>
-    requires rows { IfSome rows (λ rows. AreRows (map octets_of codec.now.nodes) codec.now.slots rows.start.now rows.steps.now) }
+    requires rows { AreRecordRows codec.now rows }
     ensures end { IfSome result (λ end. WalksFrom (record_kind_at codec.now.nodes codec.now.slots) start.entry end notes.new.least) }
     ensures fault { IfNone result (FailsFrom (record_kind_at codec.now.nodes codec.now.slots) start.entry notes.new.fault) }
     ensures falls { IsTrue notes.new.least → IsTrue notes.old.least }
 {
-    let slots = Slots::of(codec);
     let before = notes.least;
-    if let Some(rows) = rows {
-        let values = ByRows {
-            compounds: codec.nodes.compound_rows(),
-        };
-        let end = walk_by_rows(&values, slots, rows, start, notes);
+    if let Some(by) = rows.rows {
+        let end = walk_by_rows(&rows.values, Slots::of(codec), by, start, notes);
         if end.is_some() {
             return end;
         }
         notes.least = before;
     }
-    walk_slots(slots, start, notes)
+    walk_slots(Slots::of(codec), start, notes)
 }
 
 /// The octet after a record of these slots. Inlined into the loops over records it would take their registers.

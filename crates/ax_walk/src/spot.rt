@@ -121,7 +121,16 @@ pub(crate) fn spot_of<'a>(item: &ItemView<'_, 'a>, steps: &[u32]) -> Spot<'a>
     match &nodes[item.link as usize - 1] {
         Node::Element { .. } => fixed_spot(nodes, item.link, item.body, steps),
         Node::Group { .. } => fixed_spot(nodes, item.link, item.body, steps),
-        _ => spot_within(item, steps),
+        _ => {
+            // Of its own, so that the item isn't put into memory where it is of a fixed kind.
+            let whole = ItemView {
+                codec: item.codec,
+                link: item.link,
+                by_fx: item.by_fx,
+                body: item.body,
+            };
+            spot_within(&whole, steps)
+        }
     }
 }
 

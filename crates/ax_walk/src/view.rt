@@ -8,6 +8,7 @@ ghost use Rattle.ax_walk.specs.Views.{IsLeast, IsLeast-prop, SpellsSome, FailsTh
 
 use crate::notes::Notes;
 use crate::octets::walk_with;
+use crate::record_rows::RecordRows;
 use crate::records::Records;
 use crate::start::Start;
 use ax_codec::Codec;
@@ -90,7 +91,7 @@ pub fn scan<'c, 'a>(codec: &'c Codec, body: &'a [u8]) -> Result<BlockView<'c, 'a
     let mut notes = Notes::new();
     let mut at = 0;
     let mut count = 0;
-    let rows = codec.nodes.rows_for(codec.slots.as_slice());
+    let rows = RecordRows::of(codec);
     while (at as usize) < body.len() {
         match walk_with(codec, rows, Start { body, at }, &mut notes) {
             Some(end) => at = end,

@@ -3,7 +3,7 @@ use Rattle.ax_fspec.proofs.RecordSlots.{frn_count, uap_bounds}
 use Rattle.ax_format.specs.Plain.{spec_tree}
 use Rattle.ax_codec.proofs.Compiling.{record_bounds_at, slots_count}
 use Rattle.ax_codec.specs.Bare.{bare_slot}
-use Rattle.ax_codec.specs.Meaning.{meanings, linked_slot, linked_slots}
+use Rattle.ax_codec.specs.Meaning.{meanings, linked_slots}
 use Rattle.ax_fspec.specs.Reading.{record_slot_list}
 use Rattle.ax_codec.proofs.build.compile_spec.Goals as goal
 

@@ -2,9 +2,10 @@
 ghost use Rattle.std.specs.Prelude.{◌<◌, ◌≤◌, length, IfSome, IfNone, IsTrue};
 ghost use Rattle.ax_format.specs.InBounds.{InBounds};
 ghost use Rattle.ax_format.specs.Sizes.{longest_body};
+ghost use Rattle.ax_rows.specs.Rows.{AreRows};
 ghost use Rattle.ax_codec.specs.NodeRows.{EachRows};
 ghost use Rattle.ax_codec.specs.Table.{kind_at};
-ghost use Rattle.ax_walk.specs.Marked.{AreRowsAt};
+ghost use Rattle.ax_walk.specs.Marked.{AreRowsAt, slots_kind};
 ghost use Rattle.ax_walk.specs.RecordRows.{AreValueRows};
 ghost use Rattle.ax_walk.specs.Walking.{WalksKind, WalksFrom, FailsFrom};
 
@@ -86,23 +87,38 @@ fn skip_compound(
     None
 }
 
-/// The octet after a compound that begins at octet `at`, by the rows of its slots. None says nothing. Inlined into the loops over
+/// The octet after a compound of these slots that begins at octet `at`, by their rows. None says nothing. Inlined into the loops over
 /// records it would take their registers; as it isn't, the body and the octet are passed by themselves, not through memory.
 #[inline(never)]
 fn walk_subitems(
-    table: Table<'_>,
-    link: u32,
+    slots: Slots<'_>,
     rows: Rows<'_>,
     body: &[u8],
     at: u32,
     notes: &mut Notes,
 ) -> Option<u32>
+    requires rows { AreRows slots.table.octets.now slots.links.now rows.start.now rows.steps.now }
+    requires body { length body.now ≤ longest_body }
+    requires at { at ≤ length body.now }
+    ensures end { IfSome result (λ end. WalksKind (slots_kind slots.entry) body.now at end notes.new.least) }
+    ensures falls { IsTrue notes.new.least → IsTrue notes.old.least }
+{
+    walk_by_rows(&ByNodes, slots, rows, Start { body, at }, notes)
+}
+
+/// The octet after a compound, by the rows of its slots, step by step. None says nothing.
+#[inline(always)]
+fn step_compound(
+    table: Table<'_>,
+    link: u32,
+    rows: Rows<'_>,
+    start: Start<'_>,
+    notes: &mut Notes,
+) -> Option<u32>
     requires link { (0 < link) × (link ≤ length table.nodes.now) }
     requires bounds { InBounds (kind_at table.nodes.now link) }
     requires rows { AreRowsAt table link rows }
-    requires body { length body.now ≤ longest_body }
-    requires at { at ≤ length body.now }
-    ensures end { IfSome result (λ end. WalksKind (kind_at table.entry.nodes.now link) body.now at end notes.new.least) }
+    ensures end { IfSome result (λ end. WalksFrom (kind_at table.entry.nodes.now link) start.entry end notes.new.least) }
     ensures falls { IsTrue notes.new.least → IsTrue notes.old.least }
 {
     let Node::Compound { mask, slots } = &table.nodes[link as usize - 1] else {
@@ -110,7 +126,7 @@ fn walk_subitems(
     };
     let links = slots.as_slice();
     let slots = Slots { table, mask, links };
-    walk_by_rows(&ByNodes, slots, rows, Start { body, at }, notes)
+    walk_subitems(slots, rows, start.body, start.at, notes)
 }
 
 /// The octet after an item: a compound is walked over by its rows, if it has some, and what these decline is judged by nodes.
@@ -135,7 +151,7 @@ pub(crate) fn walk_variable(
         if end.is_some() {
             return end;
         }
-        let end = walk_subitems(table, link, rows, start.body, start.at, notes);
+        let end = step_compound(table, link, rows, start, notes);
         if end.is_some() {
             return end;
         }

@@ -3,7 +3,7 @@ ghost use Rattle.std.specs.Prelude.{◌≡◌, ◌≤◌, length, Some, OnOk};
 ghost use Rattle.ax_expand.specs.Expansion.{expansion_tree};
 ghost use Rattle.ax_expand_work.specs.Gathering.{GathersContent};
 
-use crate::lines::{canonical, push_re, push_unread};
+use crate::lines::{RecordNumber, SpelledContent, canonical, push_re, push_unread};
 use ax_expand::{AcceptedExpansion, ContentError, decode_content};
 use ax_octets::OctetBuffer;
 use std::alloc::{AllocError, Global};
@@ -20,29 +20,21 @@ pub(crate) struct ContentLines {
 pub(crate) fn gather_content(
     alloc: Global,
     expansion: &AcceptedExpansion,
-    block: u64,
-    number: u32,
+    record: RecordNumber,
     content: &[u8],
     lines: &mut ContentLines,
 ) -> Result<(), AllocError>
     requires { length content.now ≤ 254 }
-    ensures { OnOk result (GathersContent (expansion_tree expansion.now) block number (Some content.now) lines.old lines.new) }
+    ensures { OnOk result (GathersContent (expansion_tree expansion.now) record.block record.number (Some content.now) lines.old lines.new) }
 {
     match decode_content(alloc, expansion, content) {
         Ok(value) => {
             let octets = canonical(alloc, expansion, &value)?;
-            push_re(
-                alloc,
-                &mut lines.spelled,
-                expansion,
-                block,
-                number,
-                &octets,
-                value,
-            )
+            let spelled = SpelledContent { octets, value };
+            push_re(alloc, &mut lines.spelled, expansion, record, spelled)
         }
         Err(ContentError::Fault { cause, bit }) => {
-            push_unread(&mut lines.faulty, block, number, bit, cause)
+            push_unread(&mut lines.faulty, record, bit, cause)
         }
         Err(ContentError::OutOfMemory) => Err(AllocError),
     }

@@ -20,6 +20,13 @@ use ax_text_form::record_text;
 use ax_values::EncodeError;
 use std::alloc::{AllocError, Global};
 
+/// A record, by the number of its block in the stream, from 0, and by its own in the block, from 0.
+#[derive(Clone, Copy)]
+pub(crate) struct RecordNumber {
+    pub(crate) block: u64,
+    pub(crate) number: u32,
+}
+
 /// The name of a cause.
 fn cause_text(cause: ContentCause) -> &'static [u8]
     ensures { result.now ≡ cause_name cause }
@@ -54,15 +61,14 @@ fn push_cause(lines: &mut OctetBuffer, cause: ContentCause) -> Result<(), AllocE
 #[tactic(auto, using(crate::proofs::Appended::appending))]
 pub(crate) fn push_unread(
     lines: &mut OctetBuffer,
-    block: u64,
-    number: u32,
+    record: RecordNumber,
     bit: u32,
     cause: ContentCause,
 ) -> Result<(), AllocError>
-    ensures { OnOk result (lines.new ≡ lines.old ++ unread_line block number bit cause) }
+    ensures { OnOk result (lines.new ≡ lines.old ++ unread_line record.block record.number bit cause) }
 {
-    push_numbered(lines, b"unread block ", block)?;
-    push_numbered(lines, b" record ", number as u64)?;
+    push_numbered(lines, b"unread block ", record.block)?;
+    push_numbered(lines, b" record ", record.number as u64)?;
     push_numbered(lines, b" bit ", bit as u64)?;
     push_cause(lines, cause)?;
     Ok(())
@@ -109,26 +115,31 @@ fn push_hex(alloc: Global, lines: &mut OctetBuffer, octets: &[u8]) -> Result<(),
     Ok(())
 }
 
-/// Appends the line `re block N record M "HEX" TEXT` of a value, whose canonical content has these octets.
+/// A value of RE, and the octets of its canonical content.
+#[derive(Drop)]
+pub(crate) struct SpelledContent {
+    pub(crate) octets: Vec<u8>,
+    pub(crate) value: Value,
+}
+
+/// Appends the line `re block N record M "HEX" TEXT` of a value with its canonical content.
 #[tactic(auto, using(crate::proofs::Appended::appending))]
 pub(crate) fn push_re(
     alloc: Global,
     lines: &mut OctetBuffer,
     expansion: &AcceptedExpansion,
-    block: u64,
-    number: u32,
-    octets: &[u8],
-    value: Value,
+    record: RecordNumber,
+    content: SpelledContent,
 ) -> Result<(), AllocError>
-    requires shape { Shape (compound (slots_tree expansion.now.slots)) (value_tree value) }
-    requires canonical { bits octets.now ≡ CanonContent expansion.now.form (slots_tree expansion.now.slots) (value_tree value) }
-    ensures { OnOk result (lines.new ≡ lines.old ++ re_line (expansion_tree expansion.now) block number (value_tree value)) }
+    requires shape { Shape (compound (slots_tree expansion.now.slots)) (value_tree content.value) }
+    requires canonical { bits content.octets.items ≡ CanonContent expansion.now.form (slots_tree expansion.now.slots) (value_tree content.value) }
+    ensures { OnOk result (lines.new ≡ lines.old ++ re_line (expansion_tree expansion.now) record.block record.number (value_tree content.entry.value)) }
 {
-    let text = text_of(alloc, expansion, value)?;
-    push_numbered(lines, b"re block ", block)?;
-    push_numbered(lines, b" record ", number as u64)?;
+    let text = text_of(alloc, expansion, content.value)?;
+    push_numbered(lines, b"re block ", record.block)?;
+    push_numbered(lines, b" record ", record.number as u64)?;
     lines.text(b" ")?;
-    push_hex(alloc, lines, octets)?;
+    push_hex(alloc, lines, &content.octets)?;
     lines.text3(b" ", &text, b"\n")?;
     Ok(())
 }

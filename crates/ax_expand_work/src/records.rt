@@ -6,27 +6,33 @@ ghost use Rattle.ax_expand_work.specs.Gathering.{GathersContent, GathersBlock};
 ghost use Rattle.ax_walk.specs.Shown.{record_entries};
 
 use crate::contents::{ContentLines, gather_content};
+use crate::lines::RecordNumber;
 use ax_expand::AcceptedExpansion;
 use ax_walk::{BlockView, RecordView};
 use std::alloc::{AllocError, Global};
 
-/// Gathers the line of RE's content in a record, where RE, which has that field reference number, is marked.
+/// What is expanded: RE, which has that field reference number, by its expansion.
+#[derive(Clone, Copy)]
+pub(crate) struct Expanded<'e> {
+    pub(crate) expansion: &'e AcceptedExpansion,
+    pub(crate) frn: u32,
+}
+
+/// Gathers the line of RE's content in a record, where RE is marked.
 fn gather_record(
     alloc: Global,
-    expansion: &AcceptedExpansion,
-    frn: u32,
-    block: u64,
-    number: u32,
+    re: Expanded<'_>,
+    record: RecordNumber,
     one: &RecordView<'_, '_>,
     lines: &mut ContentLines,
 ) -> Result<(), AllocError>
-    ensures { OnOk result (GathersContent (expansion_tree expansion.now) block number (content_at frn (record_entries one.now)) lines.old lines.new) }
+    ensures { OnOk result (GathersContent (expansion_tree re.entry.expansion.now) record.block record.number (content_at re.entry.frn (record_entries one.now)) lines.old lines.new) }
 {
-    let Some(item) = one.item(frn) else {
+    let Some(item) = one.item(re.frn) else {
         return Ok(());
     };
     match item.explicit() {
-        Some(content) => gather_content(alloc, expansion, block, number, content, lines),
+        Some(content) => gather_content(alloc, re.expansion, record, content, lines),
         None => Ok(()),
     }
 }
@@ -34,20 +40,20 @@ fn gather_record(
 /// Gathers the lines of the contents of RE in the records of a view, in order.
 pub(crate) fn gather_block(
     alloc: Global,
-    expansion: &AcceptedExpansion,
-    frn: u32,
+    re: Expanded<'_>,
     block: u64,
     view: &BlockView<'_, '_>,
     lines: &mut ContentLines,
 ) -> Result<(), AllocError>
-    ensures { OnOk result (GathersBlock (expansion_tree expansion.now) frn block view.now.codec.now view.now.body.now lines.old lines.new) }
+    ensures { OnOk result (GathersBlock (expansion_tree re.entry.expansion.now) re.entry.frn block view.now.codec.now view.now.body.now lines.old lines.new) }
 {
     let mut records = view.records();
     for number in 0..view.count() {
-        let Some(record) = records.next() else {
+        let Some(one) = records.next() else {
             return Ok(());
         };
-        gather_record(alloc, expansion, frn, block, number, &record, lines)?;
+        let record = RecordNumber { block, number };
+        gather_record(alloc, re, record, &one, lines)?;
     }
     Ok(())
 }

@@ -6,7 +6,7 @@ ghost use Rattle.ax_format.specs.Plain.{spec_tree};
 ghost use Rattle.ax_codec.specs.Standing.{IsCompiled};
 
 use crate::contents::ContentLines;
-use crate::records::gather_block;
+use crate::records::{Expanded, gather_block};
 use ax_blocks::{BlockWork, WorkStop, write_piece};
 use ax_check::Accepted;
 use ax_codec::Codec;
@@ -85,14 +85,11 @@ impl<'c> BlockWork for ExpandViews<'c> {
         };
         self.lines.spelled.clear();
         self.lines.faulty.clear();
-        match gather_block(
-            self.alloc,
-            self.expansion,
-            self.frn,
-            number,
-            &view,
-            &mut self.lines,
-        ) {
+        let re = Expanded {
+            expansion: self.expansion,
+            frn: self.frn,
+        };
+        match gather_block(self.alloc, re, number, &view, &mut self.lines) {
             Ok(()) => {}
             Err(_) => return Err(WorkStop::OutOfMemory),
         }

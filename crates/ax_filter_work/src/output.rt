@@ -18,19 +18,19 @@ use ax_format::BodyFault;
 pub(crate) fn lay_matching(
     filter: &Filter<'_>,
     codec: &Codec,
-    _category: u8,
     body: &[u8],
     memo: &mut Memo,
     output: &mut [u8],
 ) -> Result<u32, BodyFault>
     requires size { (1 ≤ length body.now) × (length body.now ≤ longest_body) }
     requires room { length output.old ≡ longest_block }
-    requires category { codec.now.category ≡ _category }
     ensures spelled { IfOk result (λ count. SpellsSome codec.now body.now) }
     ensures laid { IfOk result (λ count. LaysMatching (catalogue_of filter.now) (expression filter.now) codec.now body.now count output.new) }
     ensures fault { IfErr result (λ fault. FailsThere codec.now body.now fault) }
     ensures room { length output.new ≡ longest_block }
 {
+    // Read for its range: a category is an octet.
+    let _category = codec.category();
     lay_matching_bits(filter, codec, body, memo, output)
 }
 

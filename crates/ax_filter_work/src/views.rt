@@ -71,7 +71,6 @@ impl<'f, 'c> BlockWork for FilterViews<'f, 'c> {
                 let laid = lay_matching(
                     self.filter,
                     codec,
-                    raw.category,
                     raw.body,
                     &mut self.memo,
                     &mut self.output,

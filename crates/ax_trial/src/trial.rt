@@ -15,6 +15,13 @@ use ax_tables::compile;
 use ax_vectors::{Draws, make_block};
 use std::alloc::{AllocError, Global};
 
+/// So many blocks, made from a seed.
+#[derive(Clone, Copy)]
+struct Seeded {
+    seed: u64,
+    count: u32,
+}
+
 /// The numbers of so many blocks made from a seed, one after another, each of which is laid in its canonical form at the front of
 /// the output.
 #[tactic(auto, using(crate::proofs::Sums::steps))]
@@ -22,18 +29,17 @@ fn totals_of(
     alloc: Global,
     accepted: &Accepted,
     codec: &Codec,
-    seed: u64,
-    count: u32,
+    blocks: Seeded,
     output: &mut [u8],
 ) -> Result<Totals, AllocError>
     requires compiled { IsCompiled codec.now (spec_tree accepted.now) }
-    requires few { count ≤ 1000000 }
+    requires few { blocks.count ≤ 1000000 }
     requires room { length output.old ≡ longest_block }
-    ensures { IfOk result (λ totals. AreTotals (spec_tree accepted.now) seed count totals) }
+    ensures { IfOk result (λ totals. AreTotals (spec_tree accepted.now) blocks.seed blocks.count totals) }
 {
-    let mut draws = Draws::new(seed);
+    let mut draws = Draws::new(blocks.seed);
     let mut totals = Totals::none();
-    let mut left = count;
+    let mut left = blocks.count;
     while left > 0 {
         left -= 1;
         let octets = make_block(alloc, accepted, &mut draws)?;
@@ -57,6 +63,7 @@ pub fn trial_text(
 {
     let codec = compile(alloc, accepted)?;
     let mut output = blank_output(alloc)?;
-    let totals = totals_of(alloc, accepted, &codec, seed, count, &mut output)?;
+    let blocks = Seeded { seed, count };
+    let totals = totals_of(alloc, accepted, &codec, blocks, &mut output)?;
     totals.line(alloc)
 }

@@ -3,11 +3,7 @@ use Rattle.std.specs.Option.{option_copied}
 use Rattle.ax_filter.specs.OfCode.{expression}
 use Rattle.ax_filter_work.proofs.FilterBlocks.{matching_within, matching_taken, matching_fails, opaque_dropped}
 use Rattle.ax_canon.proofs.CanonBlocks.{front_length, in_place}
-use Rattle.ax_canon.proofs.CodecsOf.{found_category}
 use Rattle.ax_filter_work.proofs.views.FilterViewsBlockWork.take.Goals as goal
-
-pub lay_matching-laid-requires-clause-category : goal.lay_matching-laid-requires-clause-category
-lay_matching-laid-requires-clause-category g c = found_category _ _ _ (sym c.get.ensures ∙ ap option_copied c.in-Some.is)
 
 pub slice_bounds-write_piece-end : goal.slice_bounds-write_piece-end
 slice_bounds-write_piece-end g c =

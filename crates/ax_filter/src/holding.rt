@@ -12,7 +12,7 @@ use crate::deciding::says;
 use crate::filter::Filter;
 use crate::marks::marked_slots;
 use crate::memo::{Answer, Asked, Memo};
-use crate::passing::passes;
+use crate::passing::{passes, passes_alone};
 use ax_codec::Codec;
 use ax_expressions::{CategoryPlan, FEW, Plan, asked_by, meets, said_of_none};
 use ax_format::{Record, Spec};
@@ -77,10 +77,11 @@ fn says_of(
 
 impl<'c> Filter<'c> {
     /// Whether the filter holds of a record of that category's specification, the catalogue's. Takes no memory.
+    #[inline(never)]
     pub fn holds(&self, category: u8, one: &RecordView<'_, '_>) -> bool
         ensures { result ≡ holds (catalogue_of self.now) category (record_entries one.now) (expression self.now) }
     {
-        passes(&self.test, category, one)
+        passes_alone(&self.test, category, one)
     }
 
     /// The same of a record as a tree.

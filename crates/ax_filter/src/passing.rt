@@ -20,7 +20,7 @@ fn stands<R: HasPlaces>(place: &Option<Place>, one: &R) -> bool
 }
 
 /// Whether the element's number compares so with the other one. It doesn't where it is absent.
-#[inline]
+#[inline(always)]
 fn measures<R: HasPlaces>(element: &Option<Element>, op: Op, other: i128, one: &R) -> bool
     requires { R.sound one.now }
     ensures { result ≡ some_passes (λ n. compares op n other) (option_and_then (number_for (R.entries one.now)) element.now) }
@@ -31,6 +31,24 @@ fn measures<R: HasPlaces>(element: &Option<Element>, op: Op, other: i128, one: &
     match one.number_at(&element.place) {
         Some(number) => compares_as(op, number, element.signed, element.width, other),
         None => false,
+    }
+}
+
+/// The same as `passes`: a comparison without a call.
+#[inline(always)]
+#[tactic(auto, using(ax_expressions::proofs::Trees::passing))]
+pub fn passes_alone<R: HasPlaces>(test: &Test, category: u8, one: &R) -> bool
+    requires { R.sound one.now }
+    ensures { result ≡ passes category (R.entries one.now) (test_tree test.now) }
+{
+    match test {
+        Test::Is {
+            category: own,
+            element,
+            op,
+            number,
+        } => *own == category && measures(element, *op, *number, one),
+        _ => passes(test, category, one),
     }
 }
 

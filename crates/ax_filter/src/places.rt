@@ -53,7 +53,7 @@ impl HasPlaces for RecordView<'_, '_> {
         self.present(place)
     }
 
-    #[inline]
+    #[inline(always)]
     fn number_at(&self, place: &Place) -> Option<u128> {
         self.number(place)
     }

@@ -106,6 +106,15 @@ window_at body at count j lt = get_take count (drop at body) j lt ∙ get_or-dro
 pub window_length : (body : List ℕ) (at count : ℕ) → at + count ≤ length body → length (take count (drop at body)) ≡ count
 window_length body at count le = length-take-le count (drop at body) (omega (arith, length-drop at body))
 
+-- a field is one in octets that begin with it, too
+pub field_alone : (body : List ℕ) (at end count : ℕ) → IsField body at count → at + count ≤ end → end ≤ length body → IsField (take (end - at) (drop at body)) 0 count
+field_alone body at end count f inside le = record {
+  some = f.some;
+  within = omega (arith, inside, window_length body at (end - at) (omega (arith, inside, le)));
+  goes_on = λ j lt. ap (λ k. get_or (take (end - at) (drop at body)) k 0 % 2) (let e : 0 + j ≡ j = omega arith in e) ∙ ap (λ x. x % 2) (window_at body at (end - at) j (omega (arith, inside, lt))) ∙ f.goes_on j lt;
+  ends = ap (λ k. get_or (take (end - at) (drop at body)) k 0 % 2) (let e : 0 + (count - 1) ≡ count - 1 = omega arith in e) ∙ ap (λ x. x % 2) (window_at body at (end - at) (count - 1) (omega (arith, inside, f.some))) ∙ f.ends;
+}
+
 -- one more octet of a field
 pub marks_next : (body : List ℕ) (at i : ℕ) (more : List ℕ) → at + i < length body
     → marks_of (take i (drop at body)) ++ (seven (get_or body (at + i) 0 / 2) ++ more) ≡ marks_of (take (i + 1) (drop at body)) ++ more

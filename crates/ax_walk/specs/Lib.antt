@@ -1,3 +1,4 @@
+pub mod Fields
 pub mod InPlace
 pub mod Left
 pub mod Marked

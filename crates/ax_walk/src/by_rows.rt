@@ -11,6 +11,7 @@ ghost use Rattle.ax_walk.specs.Walking.{WalksFrom};
 use crate::compound_rows::ByRows;
 use crate::notes::Notes;
 use crate::octets::note_field;
+use crate::record::Walked;
 use crate::start::{Field, Start, are_octets};
 use crate::table::Slots;
 use crate::value_walk::ValueWalk;
@@ -119,7 +120,7 @@ pub(crate) fn field_octets(start: Start<'_>, slots: u32) -> Option<u32>
     None
 }
 
-/// The octet after a record, or a compound, of these slots, by their rows. None says nothing.
+/// Where a record, or a compound, of these slots ends, by their rows, and how many octets its presence field has. None says nothing.
 #[inline(always)]
 pub(crate) fn walk_by_rows<W: ValueWalk>(
     values: &W,
@@ -127,16 +128,24 @@ pub(crate) fn walk_by_rows<W: ValueWalk>(
     rows: Rows<'_>,
     start: Start<'_>,
     notes: &mut Notes,
-) -> Option<u32>
+) -> Option<Walked>
     requires fits { W.fits values.now slots.table.nodes.now slots.table.octets.now }
     requires rows { AreRows slots.table.octets.now slots.links.now rows.start.now rows.steps.now }
-    ensures end { IfSome result (λ end. WalksFrom (slots_kind slots.entry) start.entry end notes.new.least) }
+    ensures end { IfSome result (λ walked. WalksFrom (slots_kind slots.entry) start.entry walked.end notes.new.least) }
+    ensures field { IfSome result (λ walked. IsField start.entry.body.now start.entry.at walked.field) }
+    ensures few { IfSome result (λ walked. walked.field ≤ octets_needed slots.entry.mask.now.count) }
+    ensures inside { IfSome result (λ walked. start.entry.at + walked.field ≤ walked.end) }
     ensures falls { IsTrue notes.new.least → IsTrue notes.old.least }
 {
     are_octets(start.body);
-    let octets = field_octets(start, slots.mask.count)?;
-    note_field(start.body, start.at, start.at + octets, notes);
-    walk_rows(values, slots, rows, Field { start, octets }, notes)
+    let field = field_octets(start, slots.mask.count)?;
+    note_field(start.body, start.at, start.at + field, notes);
+    let octets = Field {
+        start,
+        octets: field,
+    };
+    let end = walk_rows(values, slots, rows, octets, notes)?;
+    Some(Walked { field, end })
 }
 
 /// The octet after the items of the record whose presence field begins at octet `at`, by their rows; notes tell of the presence

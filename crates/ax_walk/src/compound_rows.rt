@@ -103,7 +103,8 @@ fn walk_subitems(
     ensures end { IfSome result (λ end. WalksKind (slots_kind slots.entry) body.now at end notes.new.least) }
     ensures falls { IsTrue notes.new.least → IsTrue notes.old.least }
 {
-    walk_by_rows(&ByNodes, slots, rows, Start { body, at }, notes)
+    let walked = walk_by_rows(&ByNodes, slots, rows, Start { body, at }, notes)?;
+    Some(walked.end)
 }
 
 /// The octet after a compound, by the rows of its slots, step by step. None says nothing.

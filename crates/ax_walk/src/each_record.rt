@@ -69,14 +69,15 @@ pub fn record_by_rows<'c, 'a>(
     ensures least { IfSome result (λ r. IsLeastRecord codec.now r.0.body.now notes.new.least) }
     ensures fault { IfNone result (FailsAt (kind_read (record_kind_at codec.now.nodes codec.now.slots) body.now at) at notes.new.fault) }
 {
-    let Some(end) = walk_with(codec, rows, Start { body, at }, notes) else {
+    let Some(walked) = walk_with(codec, rows, Start { body, at }, notes) else {
         return None;
     };
     let record = RecordView {
         codec,
-        body: &body[at as usize..end as usize],
+        body: &body[at as usize..walked.end as usize],
+        field: walked.field,
     };
-    Some((record, end))
+    Some((record, walked.end))
 }
 
 impl<'c, 'a> Iterator for Records<'c, 'a> {

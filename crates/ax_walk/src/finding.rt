@@ -28,7 +28,7 @@ use ax_codec::Codec;
 use ax_fspec::{Presence, SlotMask, read_presence};
 
 /// The last slot of the first presence octet.
-const EARLY: u32 = 7;
+pub(crate) const EARLY: u32 = 7;
 
 /// The value of a slot in octets that spell a value of these slots, in its own place there: after the presence field and
 /// the values of the marked slots before. None comes exactly where the slot isn't marked.
@@ -58,7 +58,7 @@ pub(crate) fn find<'c, 'a>(
 
 /// The same, by the whole presence field.
 #[inline(never)]
-fn find_late<'c, 'a>(
+pub(crate) fn find_late<'c, 'a>(
     codec: &'c Codec,
     mask: &SlotMask,
     slots: &[u32],
@@ -93,7 +93,7 @@ fn marks_slot(octet: u8, slot: u32) -> bool
 /// The same for a slot of the first presence octet, where the first item begins at octet `at`: that octet alone is looked at, and it
 /// isn't judged again.
 #[inline(always)]
-fn find_early<'c, 'a>(
+pub(crate) fn find_early<'c, 'a>(
     codec: &'c Codec,
     slots: &[u32],
     body: &'a [u8],

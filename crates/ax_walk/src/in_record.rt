@@ -1,5 +1,5 @@
 //! What stands in a record: its items, and the numbers at its places.
-ghost use Rattle.std.specs.Prelude.{◌≡◌, ◌∷◌, option_map, IfSome};
+ghost use Rattle.std.specs.Prelude.{◌≡◌, ◌∷◌, ◌<◌, ◌≤◌, option_map, IfSome};
 ghost use Rattle.ax_format.specs.At.{slot_value, value_at, is_present, At};
 ghost use Rattle.ax_format.specs.Tree.{marked};
 ghost use Rattle.ax_walk.specs.InPlace.{StandsInPlace};
@@ -7,7 +7,7 @@ ghost use Rattle.ax_walk.specs.Shown.{item_value, record_entries, IsOfSlot};
 ghost use Rattle.ax_walk.specs.Spots.{IsSpot};
 ghost use Rattle.ax_walk.specs.Values.{SpellsAny};
 
-use crate::finding::find;
+use crate::finding::{EARLY, find_early, find_late};
 use crate::item::ItemView;
 use crate::record::RecordView;
 use crate::spot::{Spot, fixed_number, spot_of};
@@ -40,13 +40,25 @@ impl<'c, 'a> RecordView<'c, 'a> {
         ensures place { IfSome result (IsOfSlot self.now.codec.now self.now.codec.now.slots frn) }
         ensures window { IfSome result (λ item. StandsInPlace self.now.codec.now.nodes self.now.codec.now.slots frn self.now.body.now item.body.now) }
     {
-        find(
-            self.codec,
-            &self.codec.mask,
-            self.codec.slots.as_slice(),
-            self.body,
-            frn,
-        )
+        let slots = self.codec.slots.as_slice();
+        if frn <= EARLY && self.field > 0 {
+            return find_early(self.codec, slots, self.body, self.field, frn);
+        }
+        find_late(self.codec, &self.codec.mask, slots, self.body, frn)
+    }
+
+    /// What stands at a place in an item of the first presence octet's slots, where the walk told the octets of the field.
+    #[inline(always)]
+    fn early_spot(&self, place: &Place) -> Spot<'a>
+        requires early { place.now.frn ≤ 7 }
+        requires told { 0 < self.now.field }
+        ensures { IsSpot self.now.codec.now.nodes result (value_at (place.now.frn ∷ place.now.steps) (marked (record_entries self.now))) }
+    {
+        let slots = self.codec.slots.as_slice();
+        match find_early(self.codec, slots, self.body, self.field, place.frn) {
+            Some(item) => spot_of(&item, place.steps.as_slice()),
+            None => Spot::Missing,
+        }
     }
 
     /// What stands at a place.
@@ -70,8 +82,24 @@ impl<'c, 'a> RecordView<'c, 'a> {
     }
 
     /// The number at a place. None comes exactly where none stands there: the place of an element isn't present.
-    #[inline]
+    #[inline(always)]
     pub fn number(&self, place: &Place) -> Option<u128>
+        ensures { result ≡ At (record_entries self.now) place.now }
+    {
+        if place.frn <= EARLY && self.field > 0 {
+            return match self.early_spot(place) {
+                Spot::Fixed { link, bit, octets } => {
+                    fixed_number(self.codec.nodes.as_slice(), link, bit, octets)
+                }
+                _ => None,
+            };
+        }
+        self.late_number(place)
+    }
+
+    /// The same, of any item. It stands apart, so that an early item isn't put into memory.
+    #[inline(never)]
+    fn late_number(&self, place: &Place) -> Option<u128>
         ensures { result ≡ At (record_entries self.now) place.now }
     {
         match self.spot(place) {

@@ -1,10 +1,11 @@
 //! The walk over a body's octets by the nodes of a table.
-ghost use Rattle.std.specs.Prelude.{◌≡◌, ◌+◌, ◌-◌, ◌*◌, ◌%◌, ◌<◌, ◌≤◌, length, get_or, IfSome, IfNone, Bool, IsTrue};
+ghost use Rattle.std.specs.Prelude.{◌≡◌, ◌+◌, ◌-◌, ◌*◌, ◌%◌, ◌<◌, ◌≤◌, length, take, drop, get_or, IfSome, IfNone, Bool, IsTrue};
 ghost use Rattle.ax_bits.specs.Bits.{AreBits};
 ghost use Rattle.ax_format.specs.InBounds.{InBounds};
 ghost use Rattle.ax_format.specs.Sizes.{longest_body};
 ghost use Rattle.ax_format.specs.Tree.{counted};
 ghost use Rattle.ax_codec.specs.Table.{IsTable, IsRecordTable, LinksWithin, kind_at, record_kind_at};
+ghost use Rattle.ax_walk.specs.Fields.{IsFieldTold};
 ghost use Rattle.ax_walk.specs.Marked.{MarksDefined, WalksMarked, FailsMarked, slots_kind};
 ghost use Rattle.ax_walk.specs.RecordRows.{AreRecordRows};
 ghost use Rattle.ax_walk.specs.Rows.{AreSlots};
@@ -12,6 +13,7 @@ ghost use Rattle.ax_walk.specs.Walking.{WalksKind, FailsKind, WalksFrom, FailsFr
 
 use crate::by_rows::walk_by_rows;
 use crate::notes::{Notes, fail};
+use crate::record::Walked;
 use crate::record_rows::RecordRows;
 use crate::start::{Start, are_octets};
 use crate::table::{Slots, Table};
@@ -29,7 +31,8 @@ pub fn walk_record(codec: &Codec, body: &[u8], at: u32, notes: &mut Notes) -> Op
     ensures fault { IfNone result (FailsKind (record_kind_at codec.now.nodes codec.now.slots) body.now at notes.new.fault) }
     ensures falls { IsTrue notes.new.least → IsTrue notes.old.least }
 {
-    walk_with(codec, RecordRows::of(codec), Start { body, at }, notes)
+    let walked = walk_with(codec, RecordRows::of(codec), Start { body, at }, notes)?;
+    Some(walked.end)
 }
 
 /// The same, with the rows of the codec's records, if there are some: what is by rows declined is judged by nodes, from the record's
@@ -40,21 +43,23 @@ pub(crate) fn walk_with(
     rows: RecordRows<'_>,
     start: Start<'_>,
     notes: &mut Notes,
-) -> Option<u32>
+) -> Option<Walked>
     requires rows { AreRecordRows codec.now rows }
-    ensures end { IfSome result (λ end. WalksFrom (record_kind_at codec.now.nodes codec.now.slots) start.entry end notes.new.least) }
+    ensures end { IfSome result (λ walked. WalksFrom (record_kind_at codec.now.nodes codec.now.slots) start.entry walked.end notes.new.least) }
+    ensures field { IfSome result (λ walked. IsFieldTold codec.now (take (walked.end - start.entry.at) (drop start.entry.at start.entry.body.now)) walked.field) }
     ensures fault { IfNone result (FailsFrom (record_kind_at codec.now.nodes codec.now.slots) start.entry notes.new.fault) }
     ensures falls { IsTrue notes.new.least → IsTrue notes.old.least }
 {
     let before = notes.least;
     if let Some(by) = rows.rows {
-        let end = walk_by_rows(&rows.values, Slots::of(codec), by, start, notes);
-        if end.is_some() {
-            return end;
+        let walked = walk_by_rows(&rows.values, Slots::of(codec), by, start, notes);
+        if walked.is_some() {
+            return walked;
         }
         notes.least = before;
     }
-    walk_slots(Slots::of(codec), start, notes)
+    let end = walk_slots(Slots::of(codec), start, notes)?;
+    Some(Walked { field: 0, end })
 }
 
 /// The octet after a record of these slots. Inlined into the loops over records it would take their registers.

@@ -94,7 +94,7 @@ pub fn scan<'c, 'a>(codec: &'c Codec, body: &'a [u8]) -> Result<BlockView<'c, 'a
     let rows = RecordRows::of(codec);
     while (at as usize) < body.len() {
         match walk_with(codec, rows, Start { body, at }, &mut notes) {
-            Some(end) => at = end,
+            Some(walked) => at = walked.end,
             None => return Err(notes.fault),
         }
         count += 1;

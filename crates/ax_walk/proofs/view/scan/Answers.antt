@@ -16,17 +16,17 @@ returns-in-None-clause-honest c =
 
 pub loop-at-smaller : goal.loop-at-smaller
 loop-at-smaller c =
-    let on = record_forwards c.args.codec.now.nodes c.args.codec.now.slots c.args.body.now c.loop-at.at c.in-Some.end c.walk_with.new.notes.least c.args.codec.now.records.bounds c.in-Some.ensures.end in
+    let on = record_forwards c.args.codec.now.nodes c.args.codec.now.slots c.args.body.now c.loop-at.at c.in-Some.walked.end c.walk_with.new.notes.least c.args.codec.now.records.bounds c.in-Some.ensures.end in
     omega (arith, on, c.loop-at-test.true)
 
 pub loop-at-preserved : goal.loop-at-preserved
 loop-at-preserved c =
-    let on = record_forwards c.args.codec.now.nodes c.args.codec.now.slots c.args.body.now c.loop-at.at c.in-Some.end c.walk_with.new.notes.least c.args.codec.now.records.bounds c.in-Some.ensures.end in
+    let on = record_forwards c.args.codec.now.nodes c.args.codec.now.slots c.args.body.now c.loop-at.at c.in-Some.walked.end c.walk_with.new.notes.least c.args.codec.now.records.bounds c.in-Some.ensures.end in
     record {
-      body = body_next c.args.codec.now c.args.body.now c.loop-at.at c.in-Some.end c.loop-at.notes.least c.walk_with.new.notes.least c.loop-at.invariant.body c.walk_with.ensures.falls c.in-Some.ensures.end;
+      body = body_next c.args.codec.now c.args.body.now c.loop-at.at c.in-Some.walked.end c.loop-at.notes.least c.walk_with.new.notes.least c.loop-at.invariant.body c.walk_with.ensures.falls c.in-Some.ensures.end;
       count = (let n = c.loop-at.invariant.count in omega arith);
-      records = along_next (record_kind_at c.args.codec.now.nodes c.args.codec.now.slots) c.args.body.now c.loop-at.at c.in-Some.end c.loop-at.count c.in-Some.ensures.end.value c.in-Some.ensures.end.read
-          (record_one c.args.codec.now c.args.body.now c.loop-at.at c.in-Some.end c.walk_with.new.notes.least c.in-Some.ensures.end c.requires.1) c.loop-at.invariant.records;
+      records = along_next (record_kind_at c.args.codec.now.nodes c.args.codec.now.slots) c.args.body.now c.loop-at.at c.in-Some.walked.end c.loop-at.count c.in-Some.ensures.end.value c.in-Some.ensures.end.read
+          (record_one c.args.codec.now c.args.body.now c.loop-at.at c.in-Some.walked.end c.walk_with.new.notes.least c.in-Some.ensures.end c.requires.1) c.loop-at.invariant.records;
     }
 
 pub invariant_of-result : goal.invariant_of-result

@@ -20,21 +20,21 @@ pub(crate) struct ContentLines {
 pub(crate) fn gather_content(
     alloc: Global,
     expansion: &AcceptedExpansion,
-    record: RecordNumber,
+    name: RecordNumber,
     content: &[u8],
     lines: &mut ContentLines,
 ) -> Result<(), AllocError>
     requires { length content.now ≤ 254 }
-    ensures { OnOk result (GathersContent (expansion_tree expansion.now) record.block record.number (Some content.now) lines.old lines.new) }
+    ensures { OnOk result (GathersContent (expansion_tree expansion.now) name.block name.number (Some content.now) lines.old lines.new) }
 {
     match decode_content(alloc, expansion, content) {
         Ok(value) => {
             let octets = canonical(alloc, expansion, &value)?;
             let spelled = SpelledContent { octets, value };
-            push_re(alloc, &mut lines.spelled, expansion, record, spelled)
+            push_re(alloc, &mut lines.spelled, expansion, name, spelled)
         }
         Err(ContentError::Fault { cause, bit }) => {
-            push_unread(&mut lines.faulty, record, bit, cause)
+            push_unread(&mut lines.faulty, name, bit, cause)
         }
         Err(ContentError::OutOfMemory) => Err(AllocError),
     }

@@ -61,14 +61,14 @@ fn push_cause(lines: &mut OctetBuffer, cause: ContentCause) -> Result<(), AllocE
 #[tactic(auto, using(crate::proofs::Appended::appending))]
 pub(crate) fn push_unread(
     lines: &mut OctetBuffer,
-    record: RecordNumber,
+    name: RecordNumber,
     bit: u32,
     cause: ContentCause,
 ) -> Result<(), AllocError>
-    ensures { OnOk result (lines.new ≡ lines.old ++ unread_line record.block record.number bit cause) }
+    ensures { OnOk result (lines.new ≡ lines.old ++ unread_line name.block name.number bit cause) }
 {
-    push_numbered(lines, b"unread block ", record.block)?;
-    push_numbered(lines, b" record ", record.number as u64)?;
+    push_numbered(lines, b"unread block ", name.block)?;
+    push_numbered(lines, b" record ", name.number as u64)?;
     push_numbered(lines, b" bit ", bit as u64)?;
     push_cause(lines, cause)?;
     Ok(())
@@ -128,16 +128,16 @@ pub(crate) fn push_re(
     alloc: Global,
     lines: &mut OctetBuffer,
     expansion: &AcceptedExpansion,
-    record: RecordNumber,
+    name: RecordNumber,
     content: SpelledContent,
 ) -> Result<(), AllocError>
     requires shape { Shape (compound (slots_tree expansion.now.slots)) (value_tree content.value) }
     requires canonical { bits content.octets.items ≡ CanonContent expansion.now.form (slots_tree expansion.now.slots) (value_tree content.value) }
-    ensures { OnOk result (lines.new ≡ lines.old ++ re_line (expansion_tree expansion.now) record.block record.number (value_tree content.entry.value)) }
+    ensures { OnOk result (lines.new ≡ lines.old ++ re_line (expansion_tree expansion.now) name.block name.number (value_tree content.entry.value)) }
 {
     let text = text_of(alloc, expansion, content.value)?;
-    push_numbered(lines, b"re block ", record.block)?;
-    push_numbered(lines, b" record ", record.number as u64)?;
+    push_numbered(lines, b"re block ", name.block)?;
+    push_numbered(lines, b" record ", name.number as u64)?;
     lines.text(b" ")?;
     push_hex(alloc, lines, &content.octets)?;
     lines.text3(b" ", &text, b"\n")?;

@@ -22,17 +22,17 @@ pub(crate) struct Expanded<'e> {
 fn gather_record(
     alloc: Global,
     re: Expanded<'_>,
-    record: RecordNumber,
+    name: RecordNumber,
     one: &RecordView<'_, '_>,
     lines: &mut ContentLines,
 ) -> Result<(), AllocError>
-    ensures { OnOk result (GathersContent (expansion_tree re.entry.expansion.now) record.block record.number (content_at re.entry.frn (record_entries one.now)) lines.old lines.new) }
+    ensures { OnOk result (GathersContent (expansion_tree re.entry.expansion.now) name.block name.number (content_at re.entry.frn (record_entries one.now)) lines.old lines.new) }
 {
     let Some(item) = one.item(re.frn) else {
         return Ok(());
     };
     match item.explicit() {
-        Some(content) => gather_content(alloc, re.expansion, record, content, lines),
+        Some(content) => gather_content(alloc, re.expansion, name, content, lines),
         None => Ok(()),
     }
 }
@@ -52,8 +52,8 @@ pub(crate) fn gather_block(
         let Some(one) = records.next() else {
             return Ok(());
         };
-        let record = RecordNumber { block, number };
-        gather_record(alloc, re, record, &one, lines)?;
+        let name = RecordNumber { block, number };
+        gather_record(alloc, re, name, &one, lines)?;
     }
     Ok(())
 }

@@ -19,10 +19,10 @@ pub returns-in_default-place_record-clause-fault : goal.returns-in_default-place
 returns-in_default-place_record-clause-fault c = body_fails c.args.migrator.now.codec.now c.args.migrator.now.relation.now.moves (key_paths c.args.lost.keys.now) c.args.lost.block c.args.body.now c.loop-here.from c.loop-here.here c.loop-here.end c.loop-here.number c.loop-here.told c.args.output.now c.loop-here.output c.args.lines.now c.loop-here.lines c.loop-here.invariant c.loop-here-test.true c.place_record.new.notes.fault c.in_default-place_record.ensures.fault
 
 pub lay_record-end-requires-clause-placed : goal.lay_record-end-requires-clause-placed
-lay_record-end-requires-clause-placed c = record { slots = c.as_slice-in-loop-here.ensures.members; end = c.in-Some-place_record.next; placed = c.in-Some-place_record.ensures.end }
+lay_record-end-requires-clause-placed c = record { slots = c.as_slice.ensures.members; end = c.in-Some-place_record.next; placed = c.in-Some-place_record.ensures.end }
 
 pub tell_losses-told-requires-clause-placed : goal.tell_losses-told-requires-clause-placed
-tell_losses-told-requires-clause-placed c = record { slots = c.as_slice-in-loop-here.ensures.members; end = c.in-Some-place_record.next; placed = c.in-Some-place_record.ensures.end }
+tell_losses-told-requires-clause-placed c = record { slots = c.as_slice.ensures.members; end = c.in-Some-place_record.next; placed = c.in-Some-place_record.ensures.end }
 
 pub overflow_add-number : goal.overflow_add-number
 overflow_add-number c = omega (arith, c.loop-here.invariant.few, c.loop-here.invariant.within, c.requires.size.1)

@@ -133,7 +133,7 @@ pub(crate) fn push_re(
 ) -> Result<(), AllocError>
     requires shape { Shape (compound (slots_tree expansion.now.slots)) (value_tree content.value) }
     requires canonical { bits content.octets.items ≡ CanonContent expansion.now.form (slots_tree expansion.now.slots) (value_tree content.value) }
-    ensures { OnOk result (lines.new ≡ lines.old ++ re_line (expansion_tree expansion.now) name.block name.number (value_tree content.entry.value)) }
+    ensures { OnOk result (lines.new ≡ lines.old ++ re_line (expansion_tree expansion.now) name.block name.number (value_tree content.value)) }
 {
     let text = text_of(alloc, expansion, content.value)?;
     push_numbered(lines, b"re block ", name.block)?;

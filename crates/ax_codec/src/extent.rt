@@ -86,9 +86,10 @@ fn extent_of(nodes: &[Node], octets: &[u32], node: &Node) -> Extent
 pub fn extents_of(alloc: Global, nodes: &[Node], octets: &[u32]) -> Result<Vec<Extent>, AllocError>
     requires table { IsTable nodes.now }
     requires octets { octets.now ≡ map octets_of nodes.now }
-    ensures { IfOk result (λ made. AreExtents nodes.now made.items) }
+    ensures extents { IfOk result (λ made. AreExtents nodes.now made.items) }
+    ensures count { IfOk result (λ made. length made.items ≡ length nodes.now) }
 {
-    let mut made = Vec::new(alloc);
+    let mut made = Vec::with_capacity(alloc, nodes.len())?;
     for index in 0..nodes.len() {
         made.push(extent_of(nodes, octets, &nodes[index]))?;
     }

@@ -133,6 +133,9 @@ impl Nodes {
         self.rows = rows;
         self.compounds = compounds;
         self.extents = extents;
+        // The list is whole, so the room that is left over is given back.
+        self.items.shrink_to_fit();
+        self.octets.shrink_to_fit();
         Ok(())
     }
 

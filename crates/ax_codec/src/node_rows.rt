@@ -44,9 +44,10 @@ pub fn rows_of_compounds(
 ) -> Result<Vec<SlotRows>, AllocError>
     requires table { IsTable nodes.now }
     requires octets { octets.now ≡ map octets_of nodes.now }
-    ensures { IfOk result (λ made. EachRows octets.now nodes.now made.items) }
+    ensures rows { IfOk result (λ made. EachRows octets.now nodes.now made.items) }
+    ensures count { IfOk result (λ made. length made.items ≡ length nodes.now) }
 {
-    let mut made = Vec::new(alloc);
+    let mut made = Vec::with_capacity(alloc, nodes.len())?;
     let mut left = MOST_FIELDS;
     for index in 0..nodes.len() {
         made.push(node_rows(alloc, &nodes[index], octets, &mut left)?)?;

@@ -81,6 +81,9 @@ impl SlotRows {
         let mut start = Vec::new(alloc);
         let mut steps = Vec::new(alloc);
         make_rows(octets, slots, &mut start, &mut steps)?;
+        // They don't grow any more, so the room that is left over is given back.
+        start.shrink_to_fit();
+        steps.shrink_to_fit();
         Ok(SlotRows {
             slots: Vec::from_slice(alloc, slots)?,
             start,

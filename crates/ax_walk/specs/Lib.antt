@@ -1,4 +1,5 @@
 pub mod Fields
+pub mod FixedSpots
 pub mod InPlace
 pub mod Left
 pub mod Marked

@@ -8,10 +8,10 @@ ghost use Rattle.ax_walk.specs.Marked.{FieldHasRows, RowLeads, RowsLead, slots_k
 ghost use Rattle.ax_walk.specs.Rows.{IsField, WalksItems, slots_at};
 ghost use Rattle.ax_walk.specs.Walking.{WalksFrom};
 
-use crate::compound_rows::ByRows;
 use crate::notes::Notes;
 use crate::octets::note_field;
 use crate::record::Walked;
+use crate::record_rows::RowWalk;
 use crate::start::{Field, Start, are_octets};
 use crate::table::Slots;
 use crate::value_walk::ValueWalk;
@@ -156,9 +156,8 @@ pub fn items_by_rows(codec: &Codec, body: &[u8], at: u32, notes: &mut Notes) -> 
     ensures { IfSome result (λ end. WalksItems codec.now body.now at end notes.new.least) }
 {
     let slots = Slots::of(codec);
-    let rows = codec.nodes.rows_for(slots.links)?;
+    let by = RowWalk::of(codec)?;
     let start = Start { body, at };
     let octets = field_octets(start, codec.mask.count)?;
-    let values = ByRows::of(codec);
-    walk_rows(&values, slots, rows, Field { start, octets }, notes)
+    walk_rows(&by.values, slots, by.rows, Field { start, octets }, notes)
 }

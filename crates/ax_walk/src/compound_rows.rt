@@ -184,6 +184,7 @@ pub(crate) fn walk_record_item(
 }
 
 /// Walks over compounds by their rows, over values whose octets tell where they end without their nodes, and over the rest by these.
+/// There is an extent for each node.
 #[derive(Clone, Copy)]
 pub(crate) struct ByRows<'r> {
     pub(crate) compounds: &'r [SlotRows],
@@ -191,22 +192,26 @@ pub(crate) struct ByRows<'r> {
 }
 
 impl<'r> ByRows<'r> {
-    /// That of a codec.
+    /// That of a codec. None comes where its nodes have no extents.
     #[inline(always)]
-    pub(crate) fn of(codec: &'r Codec) -> ByRows<'r>
-        ensures { AreValueRows codec.now result }
+    pub(crate) fn of(codec: &'r Codec) -> Option<ByRows<'r>>
+        ensures { IfSome result (AreValueRows codec.now) }
     {
-        ByRows {
-            compounds: codec.nodes.compound_rows(),
-            extents: codec.nodes.extents(),
+        let extents = codec.nodes.extents();
+        if extents.len() < codec.nodes.count() as usize {
+            return None;
         }
+        Some(ByRows {
+            compounds: codec.nodes.compound_rows(),
+            extents,
+        })
     }
 }
 
 impl ValueWalk for ByRows<'_> {
     ghost use Rattle.ax_codec.specs.Extents.{AreExtents};
 
-    ghost fits = { λ s nodes octets. EachRows octets nodes s.compounds.now × AreExtents nodes s.extents.now };
+    ghost fits = { λ s nodes octets. EachRows octets nodes s.compounds.now × AreExtents nodes s.extents.now × (length nodes ≤ length s.extents.now) };
 
     #[inline(always)]
     fn walk_value(
@@ -216,12 +221,9 @@ impl ValueWalk for ByRows<'_> {
         start: Start<'_>,
         notes: &mut Notes,
     ) -> Option<u32> {
-        let place = link as usize - 1;
-        if place < self.extents.len() {
-            let end = extent_end(self.extents[place], start);
-            if end.is_some() {
-                return end;
-            }
+        let end = extent_end(self.extents[link as usize - 1], start);
+        if end.is_some() {
+            return end;
         }
         walk_variable(table, self.compounds, link, start, notes)
     }

@@ -6,7 +6,7 @@ ghost use Rattle.ax_fspec.specs.Reading.{FailsAt, kind_read};
 ghost use Rattle.ax_codec.specs.Table.{record_kind_at};
 ghost use Rattle.ax_walk.specs.Left.{record_shown, records_left};
 ghost use Rattle.ax_walk.specs.Noted.{IsLeastRecord};
-ghost use Rattle.ax_walk.specs.RecordRows.{AreRecordRows};
+ghost use Rattle.ax_walk.specs.RecordRows.{AreRecordRows, own_kind};
 ghost use Rattle.ax_walk.specs.RecordsAt.{IsRecordAt, IsNoRecord};
 
 use crate::notes::Notes;
@@ -49,31 +49,30 @@ pub fn record_noted<'c, 'a>(
     ensures least { IfSome result (λ r. IsLeastRecord codec.now r.0.body.now notes.new.least) }
     ensures fault { IfNone result (FailsAt (kind_read (record_kind_at codec.now.nodes codec.now.slots) body.now at) at notes.new.fault) }
 {
-    record_by_rows(codec, RecordRows::of(codec), body, at, notes)
+    record_by_rows(&RecordRows::of(codec), body, at, notes)
 }
 
-/// The same, with the rows of the codec's records, if there are some: a loop over records looks for them once.
+/// The same, with what the codec's records are walked over by: who reads many records looks for it once.
 #[inline(always)]
 pub fn record_by_rows<'c, 'a>(
-    codec: &'c Codec,
-    rows: RecordRows<'_>,
+    records: &RecordRows<'c>,
     body: &'a [u8],
     at: u32,
     notes: &mut Notes,
 ) -> Option<(RecordView<'c, 'a>, u32)>
-    requires rows { AreRecordRows codec.now rows }
+    requires rows { AreRecordRows records.now }
     requires body { length body.now ≤ longest_body }
     requires at { at ≤ length body.now }
-    ensures some { IfSome result (λ r. IsRecordAt codec.now body.now at r.1 r.0.body.now) }
-    ensures codec { IfSome result (λ r. r.0.codec.now ≡ codec.now) }
-    ensures least { IfSome result (λ r. IsLeastRecord codec.now r.0.body.now notes.new.least) }
-    ensures fault { IfNone result (FailsAt (kind_read (record_kind_at codec.now.nodes codec.now.slots) body.now at) at notes.new.fault) }
+    ensures some { IfSome result (λ r. IsRecordAt records.now.codec.now body.now at r.1 r.0.body.now) }
+    ensures codec { IfSome result (λ r. r.0.codec.now ≡ records.now.codec.now) }
+    ensures least { IfSome result (λ r. IsLeastRecord records.now.codec.now r.0.body.now notes.new.least) }
+    ensures fault { IfNone result (FailsAt (kind_read (own_kind records.now) body.now at) at notes.new.fault) }
 {
-    let Some(walked) = walk_with(codec, rows, Start { body, at }, notes) else {
+    let Some(walked) = walk_with(records, Start { body, at }, notes) else {
         return None;
     };
     let record = RecordView {
-        codec,
+        codec: records.codec,
         body: &body[at as usize..walked.end as usize],
         field: walked.field,
     };

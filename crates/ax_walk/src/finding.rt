@@ -1,5 +1,5 @@
 //! Values of marked slots, found after those of the slots before.
-ghost use Rattle.std.specs.Prelude.{◌≡◌, ◌+◌, ◌-◌, ◌*◌, ◌/◌, ◌<◌, ◌≤◌, false, length, get_or, IfSome, IfNone, IsTrue, option_map, option_and_then};
+ghost use Rattle.std.specs.Prelude.{◌≡◌, ◌+◌, ◌-◌, ◌*◌, ◌/◌, ◌<◌, ◌≤◌, false, length, get_or, IfSome, IfNone, IsTrue, option_map, option_and_then, ℕ};
 ghost use Rattle.ax_bits.specs.Bits.{AreBits};
 ghost use Rattle.ax_fspec.specs.Marks.{seven};
 ghost use Rattle.ax_fspec.specs.declared.mask.SlotMask.{SlotMask};
@@ -90,10 +90,54 @@ fn marks_slot(octet: u8, slot: u32) -> bool
     octet >> (8 - slot) & 1 == 1
 }
 
+/// Whether a slot is the first one that the first presence octet marks.
+#[inline(always)]
+fn marks_first(octet: u8, slot: u32) -> bool
+    requires { slot ≤ 7 }
+    ensures some { IsTrue result → 1 ≤ slot }
+    ensures marked { IsTrue result → get_or (seven (octet / 2)) (slot - 1) 0 ≡ 1 }
+    ensures none { IsTrue result → (i : ℕ) → i + 1 < slot → get_or (seven (octet / 2)) i 0 ≡ 0 }
+{
+    octet as u32 >> (8 - slot) == 1
+}
+
 /// The same for a slot of the first presence octet, where the first item begins at octet `at`: that octet alone is looked at, and it
-/// isn't judged again.
+/// isn't judged again. Where the slot is the first marked one, and has fixed octets, there is no call.
 #[inline(always)]
 pub(crate) fn find_early<'c, 'a>(
+    codec: &'c Codec,
+    slots: &[u32],
+    body: &'a [u8],
+    at: u32,
+    slot: u32,
+) -> Option<ItemView<'c, 'a>>
+    requires links { SlotLinksWithin (length codec.now.nodes) slots.now }
+    requires bounds { InBounds (record_kind_at codec.now.nodes slots.now) }
+    requires one { IsOne (record_kind_at codec.now.nodes slots.now) body.now }
+    requires field { IsField body.now 0 at }
+    requires few { at ≤ octets_needed (length slots.now) }
+    requires slot { slot ≤ 7 }
+    ensures value { option_map item_value result ≡ slot_value slot (entries_in (value_in (record_kind_at codec.now.nodes slots.now) body.now)) }
+    ensures place { IfSome result (IsOfSlot codec.now slots.now slot) }
+    ensures window { IfSome result (λ item. StandsInPlace codec.now.nodes slots.now slot body.now item.body.now) }
+{
+    if marks_first(body[0], slot) {
+        let link = slots[slot as usize - 1];
+        if let Some(end) = octets_end(Table::of(codec), link, Start { body, at }) {
+            return Some(ItemView {
+                codec,
+                link,
+                by_fx: false,
+                body: &body[at as usize..end as usize],
+            });
+        }
+    }
+    find_after(codec, slots, body, at, slot)
+}
+
+/// The same, slot after slot.
+#[inline(never)]
+fn find_after<'c, 'a>(
     codec: &'c Codec,
     slots: &[u32],
     body: &'a [u8],

@@ -1,5 +1,5 @@
 //! The walk over a body's octets by the nodes of a table.
-ghost use Rattle.std.specs.Prelude.{◌≡◌, ◌+◌, ◌-◌, ◌*◌, ◌%◌, ◌<◌, ◌≤◌, length, take, drop, get_or, IfSome, IfNone, Bool, IsTrue};
+ghost use Rattle.std.specs.Prelude.{◌≡◌, ◌+◌, ◌*◌, ◌%◌, ◌<◌, ◌≤◌, length, get_or, IfSome, IfNone, Bool, IsTrue};
 ghost use Rattle.ax_bits.specs.Bits.{AreBits};
 ghost use Rattle.ax_format.specs.InBounds.{InBounds};
 ghost use Rattle.ax_format.specs.Sizes.{longest_body};
@@ -7,7 +7,7 @@ ghost use Rattle.ax_format.specs.Tree.{counted};
 ghost use Rattle.ax_codec.specs.Table.{IsTable, IsRecordTable, LinksWithin, kind_at, record_kind_at};
 ghost use Rattle.ax_walk.specs.Fields.{IsFieldTold};
 ghost use Rattle.ax_walk.specs.Marked.{MarksDefined, WalksMarked, FailsMarked, slots_kind};
-ghost use Rattle.ax_walk.specs.RecordRows.{AreRecordRows};
+ghost use Rattle.ax_walk.specs.RecordRows.{AreRecordRows, octets_to, own_kind};
 ghost use Rattle.ax_walk.specs.Rows.{AreSlots};
 ghost use Rattle.ax_walk.specs.Walking.{WalksKind, FailsKind, WalksFrom, FailsFrom, NeedsLast, parts_kind};
 
@@ -31,34 +31,32 @@ pub fn walk_record(codec: &Codec, body: &[u8], at: u32, notes: &mut Notes) -> Op
     ensures fault { IfNone result (FailsKind (record_kind_at codec.now.nodes codec.now.slots) body.now at notes.new.fault) }
     ensures falls { IsTrue notes.new.least → IsTrue notes.old.least }
 {
-    let walked = walk_with(codec, RecordRows::of(codec), Start { body, at }, notes)?;
+    let walked = walk_with(&RecordRows::of(codec), Start { body, at }, notes)?;
     Some(walked.end)
 }
 
-/// The same, with the rows of the codec's records, if there are some: what is by rows declined is judged by nodes, from the record's
-/// start.
+/// The same, with what the codec's records are walked over by: what is by rows declined is judged by nodes, from the record's start.
 #[inline(always)]
 pub(crate) fn walk_with(
-    codec: &Codec,
-    rows: RecordRows<'_>,
+    records: &RecordRows<'_>,
     start: Start<'_>,
     notes: &mut Notes,
 ) -> Option<Walked>
-    requires rows { AreRecordRows codec.now rows }
-    ensures end { IfSome result (λ walked. WalksFrom (record_kind_at codec.now.nodes codec.now.slots) start.entry walked.end notes.new.least) }
-    ensures field { IfSome result (λ walked. IsFieldTold codec.now (take (walked.end - start.entry.at) (drop start.entry.at start.entry.body.now)) walked.field) }
-    ensures fault { IfNone result (FailsFrom (record_kind_at codec.now.nodes codec.now.slots) start.entry notes.new.fault) }
+    requires rows { AreRecordRows records.now }
+    ensures end { IfSome result (λ walked. WalksFrom (own_kind records.now) start.entry walked.end notes.new.least) }
+    ensures field { IfSome result (λ walked. IsFieldTold records.now.codec.now (octets_to start.entry walked.end) walked.field) }
+    ensures fault { IfNone result (FailsFrom (own_kind records.now) start.entry notes.new.fault) }
     ensures falls { IsTrue notes.new.least → IsTrue notes.old.least }
 {
     let before = notes.least;
-    if let Some(by) = rows.rows {
-        let walked = walk_by_rows(&rows.values, Slots::of(codec), by, start, notes);
+    if let Some(by) = &records.by_rows {
+        let walked = walk_by_rows(&by.values, records.slots, by.rows, start, notes);
         if walked.is_some() {
             return walked;
         }
         notes.least = before;
     }
-    let end = walk_slots(Slots::of(codec), start, notes)?;
+    let end = walk_slots(records.slots, start, notes)?;
     Some(Walked { field: 0, end })
 }
 

@@ -37,7 +37,7 @@ pub(crate) enum Spot<'a> {
 /// The link of the fixed kind at the end of these steps in another, of which the value begins at bit `at`, and the bit at
 /// which its own begins. None comes exactly where the steps lead nowhere.
 #[inline(always)]
-fn find_fixed(nodes: &[Node], first: u32, at: u32, steps: &[u32]) -> Option<(u32, u32)>
+pub(crate) fn find_fixed(nodes: &[Node], first: u32, at: u32, steps: &[u32]) -> Option<(u32, u32)>
     requires table { IsTable nodes.now }
     requires link { (0 < first) × (first ≤ length nodes.now) }
     requires bounds { FixedInBounds (fixed_of (linked (meanings nodes.now) first)) }
@@ -180,7 +180,7 @@ fn number_in_octet(octets: &[u8], at: u32, width: u32) -> u32
 
 /// The number that `width` bits of `octets` spell, from bit `at` on; where they are in one octet, by that alone.
 #[inline(always)]
-fn number_in(octets: &[u8], at: u32, width: u32) -> u128
+pub(crate) fn number_in(octets: &[u8], at: u32, width: u32) -> u128
     requires width { (1 ≤ width) × (width ≤ 128) }
     requires within { at + width ≤ 8 * length octets.now }
     ensures number { word width result ≡ take width (drop at (bits octets.now)) }

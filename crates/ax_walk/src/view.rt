@@ -93,7 +93,7 @@ pub fn scan<'c, 'a>(codec: &'c Codec, body: &'a [u8]) -> Result<BlockView<'c, 'a
     let mut count = 0;
     let rows = RecordRows::of(codec);
     while (at as usize) < body.len() {
-        match walk_with(codec, rows, Start { body, at }, &mut notes) {
+        match walk_with(&rows, Start { body, at }, &mut notes) {
             Some(walked) => at = walked.end,
             None => return Err(notes.fault),
         }

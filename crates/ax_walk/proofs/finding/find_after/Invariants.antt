@@ -3,7 +3,7 @@ use Rattle.ax_codec.specs.Meaning.{meanings, linked_slots}
 use Rattle.ax_walk.proofs.EarlyItems.{cleared, early_marks}
 use Rattle.ax_walk.proofs.Found.{Left}
 use Rattle.ax_walk.proofs.Placed.{Passed}
-use Rattle.ax_walk.proofs.finding.find_early.Given as goal
+use Rattle.ax_walk.proofs.finding.find_after.Given as goal
 
 abbrev pub invariant-loop-next : goal.invariant-loop-next
 invariant-loop-next l = record {

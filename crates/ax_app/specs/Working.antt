@@ -10,6 +10,7 @@ use Rattle.ax_app.specs.declared.job.Job.TheVariants as JobOf
 use Rattle.ax_app.specs.declared.work.BlocksWork.{BlocksWork}
 use Rattle.ax_app.specs.declared.work.BlocksWork.TheVariants as WorkOf
 use Rattle.ax_app.specs.declared.work.Work.{Work}
+use Rattle.ax_canon.specs.CategoryRows.{AreCategoryRows}
 use Rattle.ax_filter.specs.OfCode.{catalogue_of, expression}
 use Rattle.ax_filter_work.specs.FilterCommand.{filter_command}
 use Rattle.ax_migrate_views.specs.Blocks.{new_tree, old_tree}
@@ -44,8 +45,8 @@ blocks_command (WorkOf.Filter one) = filter_command (expression one.filter.now) 
 blocks_command (WorkOf.Migrate one) = migrate_command (old_tree one.migrator.now) (new_tree one.migrator.now)
 
 abbrev pub IsSound : BlocksWork → Type 0
-IsSound (WorkOf.Canon one) = StandForEach one.codecs.now.codecs (catalogue_tree one.catalogue.now)
-IsSound (WorkOf.Filter one) = StandForEach one.codecs.now.codecs (catalogue_of one.filter.now)
+IsSound (WorkOf.Canon one) = StandForEach one.rows.codecs.now.codecs (catalogue_tree one.catalogue.now) × AreCategoryRows one.rows
+IsSound (WorkOf.Filter one) = StandForEach one.rows.codecs.now.codecs (catalogue_of one.filter.now) × AreCategoryRows one.rows
 IsSound (WorkOf.Migrate one) = Unit {0}
 
 -- what it does with each block

@@ -3,8 +3,10 @@ ghost use Rattle.std.specs.Prelude.{◌≡◌, length, IfOk};
 ghost use Rattle.ax_format.specs.Plain.{catalogue_tree};
 ghost use Rattle.ax_format.specs.Sizes.{longest_block};
 ghost use Rattle.ax_blocks.specs.BlockCommands.{canon_command};
+ghost use Rattle.ax_canon.specs.CategoryRows.{AreCategoryRows};
 ghost use Rattle.ax_codec.specs.Standing.{StandForEach};
 
+use crate::category_rows::CategoryRows;
 use crate::output::{blank_output, lay_canonical, lay_opaque};
 use ax_blocks::{BlockWork, WorkStop, write_piece};
 use ax_check::Catalogue;
@@ -19,13 +21,13 @@ use std::alloc::{AllocError, Global};
 pub struct CanonViews<'c> {
     /// What the codecs stand for: contracts speak of it, the code doesn't.
     catalogue: &'c Catalogue,
-    codecs: &'c Codecs,
+    rows: CategoryRows<'c>,
     output: Vec<u8>,
     ghost room: { length output.items ≡ longest_block },
 }
 
 impl<'c> CanonViews<'c> {
-    /// `canon` under that catalogue, by its codecs. The output is taken here, and no memory after that.
+    /// `canon` under that catalogue, by its codecs. What it takes of memory is taken here.
     pub fn new(
         alloc: Global,
         catalogue: &'c Catalogue,
@@ -35,10 +37,11 @@ impl<'c> CanonViews<'c> {
         ensures command { IfOk result (λ work. ⟦<CanonViews<'c> as BlockWork>⟧.command work ≡ canon_command (catalogue_tree catalogue.now)) }
         ensures sound { IfOk result (λ work. ⟦<CanonViews<'c> as BlockWork>⟧.sound work) }
     {
+        let rows = CategoryRows::of(alloc, codecs)?;
         let output = blank_output(alloc)?;
         Ok(CanonViews {
             catalogue,
-            codecs,
+            rows,
             output,
         })
     }
@@ -49,7 +52,7 @@ impl<'c> BlockWork for CanonViews<'c> {
 
     ghost command = { λ s. canon_command (catalogue_tree s.catalogue.now) };
 
-    ghost sound = { λ s. StandForEach s.codecs.now.codecs (catalogue_tree s.catalogue.now) };
+    ghost sound = { λ s. StandForEach s.rows.codecs.now.codecs (catalogue_tree s.catalogue.now) × AreCategoryRows s.rows };
 
     ghost remembers = { λ first s raws. Unit {0} };
 
@@ -63,8 +66,8 @@ impl<'c> BlockWork for CanonViews<'c> {
         _report: &mut R,
         out: &mut K,
     ) -> Result<(), WorkStop> {
-        match self.codecs.get(raw.category) {
-            Some(codec) => match lay_canonical(codec, raw.body, &mut self.output) {
+        match self.rows.get(raw.category) {
+            Some(records) => match lay_canonical(records, raw.body, &mut self.output) {
                 Ok(count) => write_piece(out, &self.output[..count as usize]),
                 Err(fault) => Err(WorkStop::Fault(fault)),
             },

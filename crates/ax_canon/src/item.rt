@@ -4,7 +4,7 @@ ghost use Rattle.ax_bits.specs.Out.{room, Appends};
 ghost use Rattle.ax_format.specs.Canonical.{canon};
 ghost use Rattle.ax_walk.specs.Shown.{item_kind, item_value};
 
-use crate::rewrite::{rewrite_compound, rewrite_counted};
+use crate::rewrite::{CompoundSlots, CountedKind, rewrite_compound, rewrite_counted};
 use ax_bits::Out;
 use ax_codec::{Codec, Node};
 use ax_walk::ItemView;
@@ -20,10 +20,16 @@ pub fn canonical_item(codec: &Codec, item: &ItemView<'_, '_>, out: &mut Out<'_>)
     let nodes = codec.nodes.as_slice();
     match item.node() {
         Node::Counted { counter, inner } => {
-            rewrite_counted(nodes, *counter, *inner, item.octets(), 0, out);
+            let kind = CountedKind {
+                counter: *counter,
+                inner: *inner,
+            };
+            rewrite_counted(nodes, kind, item.octets(), 0, out);
         }
         Node::Compound { mask, slots } => {
-            rewrite_compound(nodes, mask, slots.as_slice(), item.octets(), 0, out);
+            let links = slots.as_slice();
+            let slots = CompoundSlots { mask, links };
+            rewrite_compound(nodes, slots, item.octets(), 0, out);
         }
         _ => out.push_octets(item.octets()),
     }

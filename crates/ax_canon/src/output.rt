@@ -3,16 +3,16 @@ ghost use Rattle.std.specs.Prelude.{◌≡◌, ◌+◌, ◌*◌, ◌≤◌, leng
 ghost use Rattle.ax_bits.specs.Bits.{bits, AreOctets};
 ghost use Rattle.ax_format.specs.CanonicalOctets.{framed};
 ghost use Rattle.ax_format.specs.Sizes.{longest_block, longest_body};
+ghost use Rattle.ax_walk.specs.RecordRows.{AreRecordRows};
 ghost use Rattle.ax_walk.specs.Views.{FailsThere, SpellsSome};
 ghost use Rattle.ax_canon.specs.Laid.{LaysBits, LaysCanonical};
 
 use crate::block::{canonical, scan_canonical};
 use ax_bits::Out;
-use ax_codec::Codec;
 use ax_format::{BodyFault, RawBlock};
 use ax_lists::zeros;
 use ax_values::write_opaque;
-use ax_walk::BlockView;
+use ax_walk::{BlockView, RecordRows};
 use std::alloc::{AllocError, Global};
 
 /// The most octets of a data block.
@@ -49,30 +49,40 @@ pub fn lay_block(view: &BlockView<'_, '_>, output: &mut [u8]) -> u32
 
 /// Lays the canonical form of the records that a body of the codec's category spells at the front of the output, and answers its octets; or the
 /// first fault of the body, with its bit in the body.
-pub(crate) fn lay_canonical(codec: &Codec, body: &[u8], output: &mut [u8]) -> Result<u32, BodyFault>
+pub(crate) fn lay_canonical(
+    records: &RecordRows<'_>,
+    body: &[u8],
+    output: &mut [u8],
+) -> Result<u32, BodyFault>
+    requires rows { AreRecordRows records.now }
     requires size { (1 ≤ length body.now) × (length body.now ≤ longest_body) }
     requires room { length output.old ≡ longest_block }
-    ensures spelled { IfOk result (λ count. SpellsSome codec.now body.now) }
-    ensures laid { IfOk result (λ count. LaysCanonical codec.now body.now count output.new) }
-    ensures fault { IfErr result (λ fault. FailsThere codec.now body.now fault) }
+    ensures spelled { IfOk result (λ count. SpellsSome records.now.codec.now body.now) }
+    ensures laid { IfOk result (λ count. LaysCanonical records.now.codec.now body.now count output.new) }
+    ensures fault { IfErr result (λ fault. FailsThere records.now.codec.now body.now fault) }
     ensures room { length output.new ≡ longest_block }
 {
     // Read for its range: a category is an octet.
-    let _category = codec.category();
-    lay_canonical_bits(codec, body, output)
+    let _category = records.codec.category();
+    lay_canonical_bits(records, body, output)
 }
 
 /// The same, by bits.
-fn lay_canonical_bits(codec: &Codec, body: &[u8], output: &mut [u8]) -> Result<u32, BodyFault>
+fn lay_canonical_bits(
+    records: &RecordRows<'_>,
+    body: &[u8],
+    output: &mut [u8],
+) -> Result<u32, BodyFault>
+    requires rows { AreRecordRows records.now }
     requires size { (1 ≤ length body.now) × (length body.now ≤ longest_body) }
     requires room { length output.old ≡ longest_block }
-    ensures spelled { IfOk result (λ count. SpellsSome codec.now body.now) }
-    ensures laid { IfOk result (λ count. LaysBits codec.now body.now count (bits output.new)) }
-    ensures fault { IfErr result (λ fault. FailsThere codec.now body.now fault) }
+    ensures spelled { IfOk result (λ count. SpellsSome records.now.codec.now body.now) }
+    ensures laid { IfOk result (λ count. LaysBits records.now.codec.now body.now count (bits output.new)) }
+    ensures fault { IfErr result (λ fault. FailsThere records.now.codec.now body.now fault) }
     ensures room { length output.new ≡ longest_block }
 {
     let mut out = Out::over(output);
-    scan_canonical(codec, body, &mut out)
+    scan_canonical(records, body, &mut out)
 }
 
 /// Lays a block of a category without a file at the front of the output, and answers its octets.

@@ -21,6 +21,27 @@ use ax_format::Counter;
 use ax_fspec::{Presence, SlotMask, count_at, read_presence, write_presence};
 use ax_walk::{Notes, items_by_rows, walk, walk_record};
 
+/// The marked slots of a presence field, and the octet after it, at which the first of their items begins.
+#[derive(Clone, Copy)]
+struct MarkedItems {
+    marked: Presence,
+    begin: u32,
+}
+
+/// The kind of occurrences, by its link, and the counter before them.
+#[derive(Clone, Copy)]
+pub(crate) struct CountedKind {
+    pub(crate) counter: Counter,
+    pub(crate) inner: u32,
+}
+
+/// The slots of a compound: the mask has those that aren't spare, and each of these has the link of its node.
+#[derive(Clone, Copy)]
+pub(crate) struct CompoundSlots<'c> {
+    pub(crate) mask: &'c SlotMask,
+    pub(crate) links: &'c [u32],
+}
+
 /// Appends the canonical spelling of the record at octet `at`. Answers the octet after it.
 pub(crate) fn rewrite_record(codec: &Codec, body: &[u8], at: u32, out: &mut Out<'_>) -> u32
     requires body { length body.now ≤ longest_body }
@@ -50,36 +71,33 @@ pub(crate) fn rewrite_field(codec: &Codec, body: &[u8], at: u32, out: &mut Out<'
         Err(_) => at,
         Ok(here) => {
             write_presence(&items, out);
-            rewrite_items(codec, items, body, at, here, out)
+            let items = MarkedItems {
+                marked: items,
+                begin: here,
+            };
+            rewrite_items(codec, items, body, at, out)
         }
     }
 }
 
-/// Appends the canonical spellings of the items of the marked slots, of a record whose presence field begins at octet `at` and ends
-/// before octet `here`. Where no presence field in them is longer than it has to be, as their rows tell, their octets are copied in
+/// Appends the canonical spellings of the items of the marked slots, of a record whose presence field begins at octet `at`. Where no
+/// presence field in them is longer than it has to be, as their rows tell, their octets are copied in
 /// one piece: the record's own field alone was.
-fn rewrite_items(
-    codec: &Codec,
-    items: Presence,
-    body: &[u8],
-    at: u32,
-    here: u32,
-    out: &mut Out<'_>,
-) -> u32
-    requires field { MarksSlots codec.now.mask body.now at here items }
+fn rewrite_items(codec: &Codec, items: MarkedItems, body: &[u8], at: u32, out: &mut Out<'_>) -> u32
+    requires field { MarksSlots codec.now.mask body.now at items.begin items.marked }
     requires body { length body.now ≤ longest_body }
-    requires room { 8 * (length body.now - here) ≤ room out.old }
-    ensures { RewritesEntries (tree_of codec.now.nodes codec.now.slots) items body.now here result out.old out.new }
+    requires room { 8 * (length body.now - items.begin) ≤ room out.old }
+    ensures { RewritesEntries (tree_of codec.now.nodes codec.now.slots) items.marked body.now items.begin result out.old out.new }
 {
     let nodes = codec.nodes.as_slice();
     let slots = codec.slots.as_slice();
     let mut notes = Notes::new();
     match items_by_rows(codec, body, at, &mut notes) {
         Some(end) if notes.least => {
-            out.push_octets(&body[here as usize..end as usize]);
+            out.push_octets(&body[items.begin as usize..end as usize]);
             end
         }
-        _ => rewrite_marked(nodes, slots, items, body, here, out),
+        _ => rewrite_marked(nodes, slots, items, body, out),
     }
 }
 
@@ -96,10 +114,15 @@ fn rewrite(nodes: &[Node], link: u32, body: &[u8], at: u32, out: &mut Out<'_>) -
 {
     match &nodes[link as usize - 1] {
         Node::Counted { counter, inner } => {
-            rewrite_counted(nodes, *counter, *inner, body, at, out)
+            let kind = CountedKind {
+                counter: *counter,
+                inner: *inner,
+            };
+            rewrite_counted(nodes, kind, body, at, out)
         }
         Node::Compound { mask, slots } => {
-            rewrite_compound(nodes, mask, slots.as_slice(), body, at, out)
+            let links = slots.as_slice();
+            rewrite_compound(nodes, CompoundSlots { mask, links }, body, at, out)
         }
         Node::Part { .. } => at,
         Node::Element { .. } => copy(nodes, link, body, at, out),
@@ -135,27 +158,26 @@ fn copy(nodes: &[Node], link: u32, body: &[u8], at: u32, out: &mut Out<'_>) -> u
 #[cycle(rewrite)]
 pub(crate) fn rewrite_counted(
     nodes: &[Node],
-    size: Counter,
-    inner: u32,
+    kind: CountedKind,
     body: &[u8],
     at: u32,
     out: &mut Out<'_>,
 ) -> u32
     requires table { IsTable nodes.now }
-    requires link { (0 < inner) × (inner ≤ length nodes.now) }
-    requires bounds { InBounds (kind_at nodes.now inner) }
+    requires link { (0 < kind.inner) × (kind.inner ≤ length nodes.now) }
+    requires bounds { InBounds (kind_at nodes.now kind.inner) }
     requires body { length body.now ≤ longest_body }
     requires at { at ≤ length body.now }
     requires room { 8 * (length body.now - at) ≤ room out.old }
-    ensures { RewritesKind (Tree.counted size (kind_at nodes.now inner)) body.now at result out.old out.new }
+    ensures { RewritesKind (Tree.counted kind.counter (kind_at nodes.now kind.inner)) body.now at result out.old out.new }
 {
-    let Some(count) = count_at(body, at, size) else {
+    let Some(count) = count_at(body, at, kind.counter) else {
         return at;
     };
-    let mut here = at + size.octets();
+    let mut here = at + kind.counter.octets();
     out.push_octets(&body[at as usize..here as usize]);
     for _ in 0..count {
-        here = rewrite(nodes, inner, body, here, out);
+        here = rewrite(nodes, kind.inner, body, here, out);
     }
     here
 }
@@ -164,27 +186,26 @@ pub(crate) fn rewrite_counted(
 #[cycle(rewrite)]
 pub(crate) fn rewrite_compound(
     nodes: &[Node],
-    mask: &SlotMask,
-    slots: &[u32],
+    slots: CompoundSlots<'_>,
     body: &[u8],
     at: u32,
     out: &mut Out<'_>,
 ) -> u32
     requires table { IsTable nodes.now }
-    requires links { SlotLinksWithin (length nodes.now) slots.now }
-    requires mask { IsMaskOf (linked_slots (meanings nodes.now) slots.now) mask.now }
-    requires bounds { InBounds (record_kind_at nodes.now slots.now) }
+    requires links { SlotLinksWithin (length nodes.now) slots.links.now }
+    requires mask { IsMaskOf (linked_slots (meanings nodes.now) slots.links.now) slots.mask.now }
+    requires bounds { InBounds (record_kind_at nodes.now slots.links.now) }
     requires body { length body.now ≤ longest_body }
     requires at { at ≤ length body.now }
     requires room { 8 * (length body.now - at) ≤ room out.old }
-    ensures { RewritesKind (record_kind_at nodes.now slots.now) body.now at result out.old out.new }
+    ensures { RewritesKind (record_kind_at nodes.now slots.entry.links.now) body.now at result out.old out.new }
 {
     let mut marked = Presence::empty();
-    match read_presence(mask, body, at, &mut marked) {
+    match read_presence(slots.mask, body, at, &mut marked) {
         Err(_) => at,
-        Ok(here) => {
+        Ok(begin) => {
             write_presence(&marked, out);
-            rewrite_marked(nodes, slots, marked, body, here, out)
+            rewrite_marked(nodes, slots.links, MarkedItems { marked, begin }, body, out)
         }
     }
 }
@@ -194,23 +215,22 @@ pub(crate) fn rewrite_compound(
 fn rewrite_marked(
     nodes: &[Node],
     slots: &[u32],
-    marked: Presence,
+    items: MarkedItems,
     body: &[u8],
-    at: u32,
     out: &mut Out<'_>,
 ) -> u32
     requires table { IsTable nodes.now }
     requires links { SlotLinksWithin (length nodes.now) slots.now }
     requires bounds { SlotsInBounds (Tree.slots_of (linked_slots (meanings nodes.now) slots.now)) }
-    requires marks { AreBits marked }
-    requires clear { NoneUndefined (Tree.defined_slots (Tree.slots_of (linked_slots (meanings nodes.now) slots.now))) marked }
+    requires marks { AreBits items.marked }
+    requires clear { NoneUndefined (Tree.defined_slots (Tree.slots_of (linked_slots (meanings nodes.now) slots.now))) items.marked }
     requires body { length body.now ≤ longest_body }
-    requires at { at ≤ length body.now }
-    requires room { 8 * (length body.now - at) ≤ room out.old }
-    ensures { RewritesEntries (tree_of nodes.now slots.now) marked body.now at result out.old out.new }
+    requires at { items.begin ≤ length body.now }
+    requires room { 8 * (length body.now - items.begin) ≤ room out.old }
+    ensures { RewritesEntries (tree_of nodes.now slots.now) items.marked body.now items.begin result out.old out.new }
 {
-    let mut left = marked;
-    let mut here = at;
+    let mut left = items.marked;
+    let mut here = items.begin;
     while let Some(slot) = left.take_first() {
         here = rewrite(nodes, slots[slot as usize - 1], body, here, out);
     }

@@ -12,15 +12,15 @@ rewrite_counted-requires-clause-bounds c =
 
 pub rewrite_compound-requires-clause-links : goal.rewrite_compound-requires-clause-links
 rewrite_compound-requires-clause-links c =
-    item_links c.args.item.now c.requires.whole c.node.result.now c.node.ensures c.as_slice-nodes.result.now (c.as_slice-nodes.ensures.members ∙ ap (λ x. x.nodes) (sym c.requires.codec)) c.in-Compound.mask c.in-Compound.slots c.as_slice.result.now c.in-Compound.is c.as_slice.ensures.members
+    item_links c.args.item.now c.requires.whole c.node.result.now c.node.ensures c.as_slice-nodes.result.now (c.as_slice-nodes.ensures.members ∙ ap (λ x. x.nodes) (sym c.requires.codec)) c.in-Compound.mask c.in-Compound.slots c.as_slice-links.result.now c.in-Compound.is c.as_slice-links.ensures.members
 
 pub rewrite_compound-requires-clause-mask : goal.rewrite_compound-requires-clause-mask
 rewrite_compound-requires-clause-mask c =
-    item_mask c.args.item.now c.requires.whole c.node.result.now c.node.ensures c.as_slice-nodes.result.now (c.as_slice-nodes.ensures.members ∙ ap (λ x. x.nodes) (sym c.requires.codec)) c.in-Compound.mask c.in-Compound.slots c.as_slice.result.now c.in-Compound.is c.as_slice.ensures.members
+    item_mask c.args.item.now c.requires.whole c.node.result.now c.node.ensures c.as_slice-nodes.result.now (c.as_slice-nodes.ensures.members ∙ ap (λ x. x.nodes) (sym c.requires.codec)) c.in-Compound.mask c.in-Compound.slots c.as_slice-links.result.now c.in-Compound.is c.as_slice-links.ensures.members
 
 pub rewrite_compound-requires-clause-bounds : goal.rewrite_compound-requires-clause-bounds
 rewrite_compound-requires-clause-bounds c =
-    slots_bound c.args.item.now c.requires.whole c.node.result.now c.node.ensures c.as_slice-nodes.result.now (c.as_slice-nodes.ensures.members ∙ ap (λ x. x.nodes) (sym c.requires.codec)) c.in-Compound.mask c.in-Compound.slots c.as_slice.result.now c.in-Compound.is c.as_slice.ensures.members
+    slots_bound c.args.item.now c.requires.whole c.node.result.now c.node.ensures c.as_slice-nodes.result.now (c.as_slice-nodes.ensures.members ∙ ap (λ x. x.nodes) (sym c.requires.codec)) c.in-Compound.mask c.in-Compound.slots c.as_slice-links.result.now c.in-Compound.is c.as_slice-links.ensures.members
 
 pub returns-in-Counted : goal.returns-in-Counted
 returns-in-Counted c =
@@ -29,7 +29,7 @@ returns-in-Counted c =
 
 pub returns-in-Compound : goal.returns-in-Compound
 returns-in-Compound c =
-    compound_item c.args.item.now c.requires.whole c.node.result.now c.node.ensures c.as_slice-nodes.result.now (c.as_slice-nodes.ensures.members ∙ ap (λ x. x.nodes) (sym c.requires.codec)) c.in-Compound.mask c.in-Compound.slots c.as_slice.result.now c.in-Compound.is c.as_slice.ensures.members
+    compound_item c.args.item.now c.requires.whole c.node.result.now c.node.ensures c.as_slice-nodes.result.now (c.as_slice-nodes.ensures.members ∙ ap (λ x. x.nodes) (sym c.requires.codec)) c.in-Compound.mask c.in-Compound.slots c.as_slice-links.result.now c.in-Compound.is c.as_slice-links.ensures.members
     c.octets-in-Compound.result.now c.rewrite_compound.result c.args.out.now c.rewrite_compound.new.out c.octets-in-Compound.ensures.body c.rewrite_compound.ensures
 
 pub returns-in_default : goal.returns-in_default

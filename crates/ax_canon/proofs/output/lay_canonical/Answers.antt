@@ -7,7 +7,7 @@ use Rattle.ax_canon.proofs.output.lay_canonical.Goals as goal
 
 pub returns-clause-laid : goal.returns-clause-laid
 returns-clause-laid c =
-    let codec = c.args.codec.now in
+    let codec = c.args.records.now.codec.now in
     let output = c.lay_canonical_bits.new.output in
     let octet : codec.category < 256 = omega (arith, c.category-category.ensures, c.category-category.type_inv) in
     IfOk-weaker c.lay_canonical_bits.result (λ count. LaysBits codec c.args.body.now count (bits output)) (λ count. LaysCanonical codec c.args.body.now count output)

@@ -9,7 +9,7 @@ use Rattle.ax_canon.proofs.output.lay_canonical_bits.Goals as goal
 
 pub returns-clause-laid : goal.returns-clause-laid
 returns-clause-laid c =
-    let codec = c.args.codec.now in
+    let codec = c.args.records.now.codec.now in
     let new = c.scan_canonical.new.out in
     let f : IfOk c.scan_canonical.result (λ count. LaysBits codec c.args.body.now count (bits new.buffer.now)) =
     IfOk-weaker c.scan_canonical.result (λ count. IsCanonical codec c.args.body.now count c.over-out.result new) (λ count. LaysBits codec c.args.body.now count (bits new.buffer.now))

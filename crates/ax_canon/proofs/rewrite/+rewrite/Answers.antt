@@ -23,9 +23,9 @@ rewrite-rewrite_counted-requires t c =
 
 pub rewrite-rewrite_compound-requires : goal.rewrite-rewrite_compound-requires
 rewrite-rewrite_compound-requires t c =
-    let b : InBounds (record_kind_at c.args.nodes.now c.as_slice.result.now) = subst InBounds (is_compound c.args.nodes.now c.args.link c.index-nodes-link.result c.requires.table c.requires.link.0 c.requires.link.1 c.index-nodes-link.is c.in-Compound.mask c.in-Compound.slots c.as_slice.result.now c.in-Compound.is c.as_slice.ensures.members) c.requires.bounds in
-    let falls = compound_falls c.args.nodes.now c.args.link c.index-nodes-link.result c.requires.table c.requires.link.0 c.requires.link.1 c.index-nodes-link.is c.in-Compound.mask c.in-Compound.slots c.as_slice.result.now c.in-Compound.is c.as_slice.ensures.members in
-    (omega (arith, falls, c.decreases), (c.requires.table, (compound_links c.args.nodes.now c.args.link c.index-nodes-link.result c.requires.table c.requires.link.0 c.requires.link.1 c.index-nodes-link.is c.in-Compound.mask c.in-Compound.slots c.as_slice.result.now c.in-Compound.is c.as_slice.ensures.members, (compound_mask c.args.nodes.now c.args.link c.index-nodes-link.result c.requires.table c.requires.link.0 c.requires.link.1 c.index-nodes-link.is c.in-Compound.mask c.in-Compound.slots c.as_slice.result.now c.in-Compound.is c.as_slice.ensures.members, (b, (c.requires.body, (c.requires.at, c.requires.room)))))))
+    let b : InBounds (record_kind_at c.args.nodes.now c.as_slice-links.result.now) = subst InBounds (is_compound c.args.nodes.now c.args.link c.index-nodes-link.result c.requires.table c.requires.link.0 c.requires.link.1 c.index-nodes-link.is c.in-Compound.mask c.in-Compound.slots c.as_slice-links.result.now c.in-Compound.is c.as_slice-links.ensures.members) c.requires.bounds in
+    let falls = compound_falls c.args.nodes.now c.args.link c.index-nodes-link.result c.requires.table c.requires.link.0 c.requires.link.1 c.index-nodes-link.is c.in-Compound.mask c.in-Compound.slots c.as_slice-links.result.now c.in-Compound.is c.as_slice-links.ensures.members in
+    (omega (arith, falls, c.decreases), (c.requires.table, (compound_links c.args.nodes.now c.args.link c.index-nodes-link.result c.requires.table c.requires.link.0 c.requires.link.1 c.index-nodes-link.is c.in-Compound.mask c.in-Compound.slots c.as_slice-links.result.now c.in-Compound.is c.as_slice-links.ensures.members, (compound_mask c.args.nodes.now c.args.link c.index-nodes-link.result c.requires.table c.requires.link.0 c.requires.link.1 c.index-nodes-link.is c.in-Compound.mask c.in-Compound.slots c.as_slice-links.result.now c.in-Compound.is c.as_slice-links.ensures.members, (b, (c.requires.body, (c.requires.at, c.requires.room)))))))
 
 pub rewrite-copy-requires-clause-plain : goal.rewrite-copy-requires-clause-plain
 rewrite-copy-requires-clause-plain t c =
@@ -53,7 +53,7 @@ rewrite-returns-in-Counted t c =
 
 pub rewrite-returns-in-Compound : goal.rewrite-returns-in-Compound
 rewrite-returns-in-Compound t c =
-    as_kind (kind_at c.args.nodes.now c.args.link) (record_kind_at c.args.nodes.now c.as_slice.result.now) c.args.body.now c.args.at c.rewrite_compound.result c.args.out.now c.rewrite_compound.new.out (is_compound c.args.nodes.now c.args.link c.index-nodes-link.result c.requires.table c.requires.link.0 c.requires.link.1 c.index-nodes-link.is c.in-Compound.mask c.in-Compound.slots c.as_slice.result.now c.in-Compound.is c.as_slice.ensures.members) c.rewrite_compound.ensures
+    as_kind (kind_at c.args.nodes.now c.args.link) (record_kind_at c.args.nodes.now c.as_slice-links.result.now) c.args.body.now c.args.at c.rewrite_compound.result c.args.out.now c.rewrite_compound.new.out (is_compound c.args.nodes.now c.args.link c.index-nodes-link.result c.requires.table c.requires.link.0 c.requires.link.1 c.index-nodes-link.is c.in-Compound.mask c.in-Compound.slots c.as_slice-links.result.now c.in-Compound.is c.as_slice-links.ensures.members) c.rewrite_compound.ensures
 
 pub rewrite-returns-in-Part : goal.rewrite-returns-in-Part
 rewrite-returns-in-Part t c =
@@ -61,27 +61,27 @@ rewrite-returns-in-Part t c =
 
 pub rewrite_compound-write_presence-requires : goal.rewrite_compound-write_presence-requires
 rewrite_compound-write_presence-requires t c =
-    field_room c.args.nodes.now c.args.slots.now c.args.mask.now c.args.body.now c.read_presence.new.into c.args.at c.in-Ok.here (AreOctets-items c.args.body.now (λ i. (let fits = c.type_inv.body i in omega arith))) c.requires.bounds c.requires.mask c.in-Ok.ensures.ok _ c.requires.room
+    field_room c.args.nodes.now c.args.slots.links.now c.args.slots.mask.now c.args.body.now c.read_presence.new.into c.args.at c.in-Ok.begin (AreOctets-items c.args.body.now (λ i. (let fits = c.type_inv.body i in omega arith))) c.requires.bounds c.requires.mask c.in-Ok.ensures.ok _ c.requires.room
 
 pub rewrite_compound-rewrite_marked-requires : goal.rewrite_compound-rewrite_marked-requires
 rewrite_compound-rewrite_marked-requires t c =
-    (omega (arith, c.decreases), (c.requires.table, (c.requires.links, (slots_bounds c.args.nodes.now c.args.slots.now c.requires.bounds, (marks_bits c.args.mask.now c.args.body.now c.read_presence.new.into c.args.at c.in-Ok.here c.in-Ok.ensures.ok, (marks_clear (linked_slots (meanings c.args.nodes.now) c.args.slots.now) c.args.mask.now c.args.body.now c.read_presence.new.into c.args.at c.in-Ok.here c.requires.mask c.in-Ok.ensures.ok, (c.requires.body, (c.in-Ok.ensures.ok.within, room_following c.args.nodes.now c.args.slots.now c.args.mask.now c.args.body.now c.read_presence.new.into c.args.at c.in-Ok.here (AreOctets-items c.args.body.now (λ i. (let fits = c.type_inv.body i in omega arith))) c.requires.bounds c.requires.mask c.in-Ok.ensures.ok c.args.out.now c.write_presence.new.out c.requires.room c.write_presence.ensures))))))))
+    (omega (arith, c.decreases), (c.requires.table, (c.requires.links, (slots_bounds c.args.nodes.now c.args.slots.links.now c.requires.bounds, (marks_bits c.args.slots.mask.now c.args.body.now c.read_presence.new.into c.args.at c.in-Ok.begin c.in-Ok.ensures.ok, (marks_clear (linked_slots (meanings c.args.nodes.now) c.args.slots.links.now) c.args.slots.mask.now c.args.body.now c.read_presence.new.into c.args.at c.in-Ok.begin c.requires.mask c.in-Ok.ensures.ok, (c.requires.body, (c.in-Ok.ensures.ok.within, room_following c.args.nodes.now c.args.slots.links.now c.args.slots.mask.now c.args.body.now c.read_presence.new.into c.args.at c.in-Ok.begin (AreOctets-items c.args.body.now (λ i. (let fits = c.type_inv.body i in omega arith))) c.requires.bounds c.requires.mask c.in-Ok.ensures.ok c.args.out.now c.write_presence.new.out c.requires.room c.write_presence.ensures))))))))
 
 pub rewrite_compound-returns-in-Err : goal.rewrite_compound-returns-in-Err
 rewrite_compound-returns-in-Err t c =
-    not_copied (canon (record_kind_at c.args.nodes.now c.args.slots.now)) (kind_read (record_kind_at c.args.nodes.now c.args.slots.now) c.args.body.now c.args.at) c.args.body.now c.args.at c.args.out.now c.in-Err.field-0 c.requires.at c.requires.room (record_failed c.args.nodes.now c.args.slots.now c.args.mask.now c.args.body.now c.args.at c.in-Err.field-0 c.requires.mask c.in-Err.ensures.err)
+    not_copied (canon (record_kind_at c.args.nodes.now c.args.slots.links.now)) (kind_read (record_kind_at c.args.nodes.now c.args.slots.links.now) c.args.body.now c.args.at) c.args.body.now c.args.at c.args.out.now c.in-Err.field-0 c.requires.at c.requires.room (record_failed c.args.nodes.now c.args.slots.links.now c.args.slots.mask.now c.args.body.now c.args.at c.in-Err.field-0 c.requires.mask c.in-Err.ensures.err)
 
 pub rewrite_compound-returns-in-Ok : goal.rewrite_compound-returns-in-Ok
 rewrite_compound-returns-in-Ok t c =
-    compound_written c.args.nodes.now c.args.slots.now c.args.mask.now c.args.body.now c.read_presence.new.into c.args.at c.in-Ok.here (AreOctets-items c.args.body.now (λ i. (let fits = c.type_inv.body i in omega arith))) c.requires.bounds c.requires.mask c.in-Ok.ensures.ok c.rewrite_marked.result c.args.out.now c.write_presence.new.out c.rewrite_marked.new.out c.write_presence.ensures c.rewrite_marked.ensures
+    compound_written c.args.nodes.now c.args.slots.links.now c.args.slots.mask.now c.args.body.now c.read_presence.new.into c.args.at c.in-Ok.begin (AreOctets-items c.args.body.now (λ i. (let fits = c.type_inv.body i in omega arith))) c.requires.bounds c.requires.mask c.in-Ok.ensures.ok c.rewrite_marked.result c.args.out.now c.write_presence.new.out c.rewrite_marked.new.out c.write_presence.ensures c.rewrite_marked.ensures
 
 pub rewrite_counted-returns-in_default : goal.rewrite_counted-returns-in_default
 rewrite_counted-returns-in_default t c =
-    no_count c.args.size (kind_at c.args.nodes.now c.args.inner) c.args.body.now c.args.at c.args.out.now c.in_default.ensures.short c.requires.at c.requires.room
+    no_count c.args.kind.counter (kind_at c.args.nodes.now c.args.kind.inner) c.args.body.now c.args.at c.args.out.now c.in_default.ensures.short c.requires.at c.requires.room
 
 pub rewrite_counted-loop-init : goal.rewrite_counted-loop-init
 rewrite_counted-loop-init t c =
-    count_first c.args.size (kind_at c.args.nodes.now c.args.inner) c.args.body.now c.in-Some.count c.args.at c.args.out.now c.push_octets.new.self c.in-Some.ensures.count c.requires.room c.octets.result c.octets.ensures c.push_octets.ensures
+    count_first c.args.kind.counter (kind_at c.args.nodes.now c.args.kind.inner) c.args.body.now c.in-Some.count c.args.at c.args.out.now c.push_octets.new.self c.in-Some.ensures.count c.requires.room c.octets.result c.octets.ensures c.push_octets.ensures
 
 pub rewrite_counted-rewrite-here-requires : goal.rewrite_counted-rewrite-here-requires
 rewrite_counted-rewrite-here-requires t c =
@@ -89,11 +89,11 @@ rewrite_counted-rewrite-here-requires t c =
 
 pub rewrite_counted-loop-preserved : goal.rewrite_counted-loop-preserved
 rewrite_counted-loop-preserved t c =
-    count_next c.args.size (kind_at c.args.nodes.now c.args.inner) c.args.body.now c.in-Some.count c.loop.counter c.args.at c.loop.here c.rewrite-here.result c.args.out.now c.loop.out c.rewrite-here.new.out c.loop.invariant c.loop-test.true c.rewrite-here.ensures
+    count_next c.args.kind.counter (kind_at c.args.nodes.now c.args.kind.inner) c.args.body.now c.in-Some.count c.loop.counter c.args.at c.loop.here c.rewrite-here.result c.args.out.now c.loop.out c.rewrite-here.new.out c.loop.invariant c.loop-test.true c.rewrite-here.ensures
 
 pub rewrite_counted-returns : goal.rewrite_counted-returns
 rewrite_counted-returns t c =
-    count_last c.args.size (kind_at c.args.nodes.now c.args.inner) c.args.body.now c.in-Some.count c.loop.counter c.args.at c.loop.here c.args.out.now c.loop.out c.loop.invariant c.loop-test.false
+    count_last c.args.kind.counter (kind_at c.args.nodes.now c.args.kind.inner) c.args.body.now c.in-Some.count c.loop.counter c.args.at c.loop.here c.args.out.now c.loop.out c.loop.invariant c.loop-test.false
 
 pub rewrite_marked-bounds-slots-slot : goal.rewrite_marked-bounds-slots-slot
 rewrite_marked-bounds-slots-slot t c =
@@ -106,8 +106,8 @@ rewrite_marked-rewrite-here-requires t c =
 
 pub rewrite_marked-loop-slot-preserved : goal.rewrite_marked-loop-slot-preserved
 rewrite_marked-loop-slot-preserved t c =
-    marks_next c.args.nodes.now c.args.slots.now c.args.marked c.loop-slot.left c.take_first.new.self c.args.body.now c.in-Some.slot c.args.at c.loop-slot.here c.rewrite-here.result c.args.out.now c.loop-slot.out c.rewrite-here.new.out (next_marked c.args.nodes.now c.args.slots.now c.loop-slot.left c.take_first.new.self _ c.in-Some.slot c.requires.bounds c.loop-slot.invariant.clear c.loop-slot.invariant.are_bits c.in-Some.ensures.some c.in-Some.ensures.marks) c.rewrite-here.ensures c.loop-slot.invariant
+    marks_next c.args.nodes.now c.args.slots.now c.args.items.marked c.loop-slot.left c.take_first.new.self c.args.body.now c.in-Some.slot c.args.items.begin c.loop-slot.here c.rewrite-here.result c.args.out.now c.loop-slot.out c.rewrite-here.new.out (next_marked c.args.nodes.now c.args.slots.now c.loop-slot.left c.take_first.new.self _ c.in-Some.slot c.requires.bounds c.loop-slot.invariant.clear c.loop-slot.invariant.are_bits c.in-Some.ensures.some c.in-Some.ensures.marks) c.rewrite-here.ensures c.loop-slot.invariant
 
 pub rewrite_marked-returns : goal.rewrite_marked-returns
 rewrite_marked-returns t c =
-    marks_last (linked_slots (meanings c.args.nodes.now) c.args.slots.now) c.args.marked c.loop-slot.left c.args.body.now c.args.at c.loop-slot.here c.args.out.now c.loop-slot.out c.loop-slot.invariant c.in_default.ensures.none
+    marks_last (linked_slots (meanings c.args.nodes.now) c.args.slots.now) c.args.items.marked c.loop-slot.left c.args.body.now c.args.items.begin c.loop-slot.here c.args.out.now c.loop-slot.out c.loop-slot.invariant c.in_default.ensures.none

@@ -1,5 +1,5 @@
 -- The filter of an expression that the tokens spell.
-use Rattle.std.proofs.Common.{◌≡◌, List, refl, sym, subst, Ok, Err, IfOk}
+use Rattle.std.proofs.Common.{◌≡◌, List, sym, subst, Ok, Err, IfOk}
 use Rattle.std.specs.Prelude.{Result}
 use Rattle.ax_tokens.specs.PlainToken.{PlainToken}
 use Rattle.ax_format.specs.Specification.{SpecTree}

@@ -13,3 +13,4 @@ pub use Rattle.ax_expressions.specs.Words
 pub mod Matching
 pub mod Memos
 pub mod OfCode
+pub mod Spotted

@@ -1,10 +1,11 @@
 //! What a filter says of a record.
-ghost use Rattle.std.specs.Prelude.{◌≡◌, ℕ, Option};
+ghost use Rattle.std.specs.Prelude.{◌≡◌, ℕ, Option, IfSome};
 ghost use Rattle.ax_format.specs.Plain.{record_tree};
 ghost use Rattle.ax_expressions.specs.Meaning.{holds};
-ghost use Rattle.ax_filter.specs.Memos.{NoneLater, Recalls};
+ghost use Rattle.ax_filter.specs.Memos.{NoneLater, Recalls, plan_says};
 ghost use Rattle.ax_filter.specs.OfCode.{expression, catalogue_of};
-ghost use Rattle.ax_expressions.specs.Plans.{finds, plan_tree, says};
+ghost use Rattle.ax_filter.specs.Spotted.{IsSpotOf};
+ghost use Rattle.ax_expressions.specs.Tests.{test_tree};
 ghost use Rattle.ax_expressions.specs.declared.plan.Found.{Found};
 ghost use Rattle.ax_walk.specs.Shown.{record_entries};
 
@@ -12,11 +13,11 @@ use crate::deciding::says;
 use crate::filter::Filter;
 use crate::marks::marked_slots;
 use crate::memo::{Answer, Asked, Memo};
-use crate::passing::{passes, passes_alone};
+use crate::passing::{passes, passes_by};
 use ax_codec::Codec;
-use ax_expressions::{CategoryPlan, FEW, Plan, asked_by, meets, said_of_none};
+use ax_expressions::{CategoryPlan, FEW, Plan, Test, asked_by, meets, said_of_none};
 use ax_format::{Record, Spec};
-use ax_walk::{Notes, PlacedSlots, Places, RecordView, place_record};
+use ax_walk::{FixedSpot, Notes, PlacedSlots, Places, RecordView, place_record};
 use std::alloc::{AllocError, Global};
 
 /// What a plan says of a record under that codec, its items found in one walk.
@@ -27,7 +28,7 @@ fn says_by_places(
     answers: &mut [Answer],
 ) -> bool
     requires { (found : ℕ → Option Found) → Recalls found one.now.number answers.old }
-    ensures said { one.now.record.now.codec.now ≡ codec.now → result ≡ says one.now.marked (finds one.now.questions.now (record_entries one.now.record.now)) (plan_tree plan.now.plan) }
+    ensures said { one.now.record.now.codec.now ≡ codec.now → result ≡ plan_says plan.now one.now }
     ensures answers { NoneLater one.now.number answers.new }
 {
     let body = one.record.octets();
@@ -63,7 +64,7 @@ fn says_of(
     answers: &mut [Answer],
 ) -> bool
     requires { (found : ℕ → Option Found) → Recalls found one.now.number answers.old }
-    ensures said { one.now.record.now.codec.now ≡ codec.now → result ≡ says one.now.marked (finds one.now.questions.now (record_entries one.now.record.now)) (plan_tree plan.now.plan) }
+    ensures said { one.now.record.now.codec.now ≡ codec.now → result ≡ plan_says plan.now one.now }
     ensures answers { NoneLater one.now.number answers.new }
 {
     if !meets(&asked_by(&plan.plan), &one.marked) {
@@ -81,7 +82,38 @@ impl<'c> Filter<'c> {
     pub fn holds(&self, category: u8, one: &RecordView<'_, '_>) -> bool
         ensures { result ≡ holds (catalogue_of self.now) category (record_entries one.now) (expression self.now) }
     {
-        passes_alone(&self.test, category, one)
+        passes(&self.test, category, one)
+    }
+
+    /// Where the number stands that the filter compares, in records of a codec, if the filter is one comparison of that codec's category.
+    /// None says nothing.
+    pub fn spot_under(&self, codec: &Codec) -> Option<FixedSpot>
+        ensures { IfSome result (IsSpotOf (test_tree self.now.test) codec.now) }
+    {
+        let Test::Is {
+            category,
+            element,
+            ..
+        } = &self.test
+        else {
+            return None;
+        };
+        if *category != codec.category {
+            return None;
+        }
+        let Some(element) = element else {
+            return None;
+        };
+        FixedSpot::of(codec, &element.place)
+    }
+
+    /// The same as `holds`, where it is known where the number stands that the filter compares. There is no call.
+    #[inline(always)]
+    pub fn holds_by_spot(&self, category: u8, one: &RecordView<'_, '_>, spot: FixedSpot) -> bool
+        requires { IsSpotOf (test_tree self.now.test) one.now.codec.now spot }
+        ensures { result ≡ holds (catalogue_of self.now) category (record_entries one.now) (expression self.now) }
+    {
+        passes_by(&self.test, category, one, spot)
     }
 
     /// The same of a record as a tree.

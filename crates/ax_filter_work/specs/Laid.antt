@@ -1,7 +1,11 @@
 -- What is asked of a record, and the blocks of matching records that stand at the front of an output.
 use Rattle.std.specs.Prelude.{◌≡◌, ℕ, ◌*◌, ◌≤◌, Bool, List, length, take}
 use Rattle.ax_bits.specs.Bits.{bits}
+use Rattle.ax_blocks.specs.Commands.{BlockCommand}
 use Rattle.ax_filter.specs.Matching.{filtered}
+use Rattle.ax_filter.specs.OfCode.{expression, catalogue_of}
+use Rattle.ax_filter.specs.declared.filter.Filter.{Filter}
+use Rattle.ax_filter_work.specs.FilterCommand.{filter_command}
 use Rattle.ax_expressions.specs.Meaning.{holds}
 use Rattle.ax_expressions.specs.Tree.{ExprTree}
 use Rattle.ax_format.specs.Blocks.{read_block}
@@ -36,3 +40,11 @@ pub record IsMatchingBlock (catalogue : List SpecTree) (e : ExprTree) (spec : Sp
 
 pub record LaysMatching (catalogue : List SpecTree) (e : ExprTree) (codec : Codec) (body : List ℕ) (count : ℕ) (output : List ℕ) : Type 0 where
   pub block : (spec : SpecTree) (records : List EntriesTree) → NoFlaw spec → StandsFor codec spec → SpellsBody spec records (bits body) → IsMatchingBlock catalogue e spec records count output
+
+-- ---- by a filter of the code
+
+abbrev pub command_of : Filter → BlockCommand
+command_of filter = filter_command (expression filter) (catalogue_of filter)
+
+abbrev pub LaysBitsBy : Filter → Codec → List ℕ → ℕ → List ℕ → Type 0
+LaysBitsBy filter codec body count output = LaysMatchingBits (catalogue_of filter) (expression filter) codec body count output

@@ -2,12 +2,14 @@
 ghost use Rattle.std.specs.Prelude.{◌≡◌, length, IfOk};
 ghost use Rattle.ax_filter.specs.OfCode.{expression, catalogue_of};
 ghost use Rattle.ax_filter_work.specs.FilterCommand.{filter_command};
+ghost use Rattle.ax_filter_work.specs.Laid.{command_of};
 ghost use Rattle.ax_format.specs.Sizes.{longest_block};
+ghost use Rattle.ax_canon.specs.CategoryRows.{AreCategoryRows};
 ghost use Rattle.ax_codec.specs.Standing.{StandForEach};
 
 use crate::output::lay_matching;
 use ax_blocks::{BlockWork, WorkStop, write_piece};
-use ax_canon::blank_output;
+use ax_canon::{CategoryRows, blank_output};
 use ax_endpoints::Sink;
 use ax_filter::{Filter, Memo};
 use ax_format::RawBlock;
@@ -20,28 +22,29 @@ use std::alloc::{AllocError, Global};
 #[derive(Drop)]
 pub struct FilterViews<'f, 'c> {
     filter: &'f Filter<'c>,
-    codecs: &'f Codecs,
+    rows: CategoryRows<'f>,
     output: Vec<u8>,
     memo: Memo,
     ghost room: { length output.items ≡ longest_block },
 }
 
 impl<'f, 'c> FilterViews<'f, 'c> {
-    /// `filter` by that filter and the codecs of its catalogue. The output and the memo are taken here, and no memory after that.
+    /// `filter` by that filter and the codecs of its catalogue. What it takes of memory is taken here.
     pub fn new(
         alloc: Global,
         filter: &'f Filter<'c>,
         codecs: &'f Codecs,
     ) -> Result<FilterViews<'f, 'c>, AllocError>
         requires { StandForEach codecs.now.codecs (catalogue_of filter.now) }
-        ensures command { IfOk result (λ work. ⟦<FilterViews<'f, 'c> as BlockWork>⟧.command work ≡ filter_command (expression filter.now) (catalogue_of filter.now)) }
+        ensures command { IfOk result (λ work. ⟦<FilterViews<'f, 'c> as BlockWork>⟧.command work ≡ command_of filter.now) }
         ensures sound { IfOk result (λ work. ⟦<FilterViews<'f, 'c> as BlockWork>⟧.sound work) }
     {
+        let rows = CategoryRows::of(alloc, codecs)?;
         let output = blank_output(alloc)?;
         let memo = filter.memo(alloc)?;
         Ok(FilterViews {
             filter,
-            codecs,
+            rows,
             output,
             memo,
         })
@@ -53,7 +56,7 @@ impl<'f, 'c> BlockWork for FilterViews<'f, 'c> {
 
     ghost command = { λ s. filter_command (expression s.filter.now) (catalogue_of s.filter.now) };
 
-    ghost sound = { λ s. StandForEach s.codecs.now.codecs (catalogue_of s.filter.now) };
+    ghost sound = { λ s. StandForEach s.rows.codecs.now.codecs (catalogue_of s.filter.now) × AreCategoryRows s.rows };
 
     ghost remembers = { λ first s raws. Unit {0} };
 
@@ -66,11 +69,11 @@ impl<'f, 'c> BlockWork for FilterViews<'f, 'c> {
         _report: &mut R,
         out: &mut K,
     ) -> Result<(), WorkStop> {
-        match self.codecs.get(raw.category) {
-            Some(codec) => {
+        match self.rows.get(raw.category) {
+            Some(records) => {
                 let laid = lay_matching(
                     self.filter,
-                    codec,
+                    records,
                     raw.body,
                     &mut self.memo,
                     &mut self.output,

@@ -98,7 +98,7 @@ pub(crate) fn lay_body(
     let mut from = 0;
     let rows = RecordRows::of(codec);
     while (here as usize) < body.len() {
-        if let Some(next) = kept_end(codec, rows, kept, body, here) {
+        if let Some(next) = kept_end(&rows, kept, body, here) {
             here = next;
             number += 1;
             continue;

@@ -160,22 +160,27 @@ pub(crate) fn kept_slots(
     Ok(KeptSlots { leaving, short })
 }
 
-/// Whether the item of the slot, if one is given, has fewer octets than `short` has for it. The slots are marked, and the first of
-/// their items begins at octet `at`; what stands behind the item isn't looked at.
+/// The slots that a record's presence field marks, and the octet after it, at which the first of their items begins.
+#[derive(Clone, Copy)]
+struct MarkedSlots {
+    marked: Presence,
+    items: u32,
+}
+
+/// Whether the item of the slot, if one is given, has fewer octets than `short` has for it. What stands behind it isn't looked at.
 #[inline]
 fn is_short(
     codec: &Codec,
-    marked: Presence,
+    marks: MarkedSlots,
     body: &[u8],
-    at: u32,
     slot: Option<u32>,
     short: &[u32],
 ) -> bool
     requires body { length body.now ≤ longest_body }
-    requires field { EndsField codec.now body.now at marked }
+    requires field { EndsField codec.now body.now marks.items marks.marked }
     requires short { length short.now ≡ 127 }
     requires slot { IfSome slot (λ s. s < 127) }
-    ensures { IsTrue result → IfSome slot (λ s. HasFewThere codec.now marked body.now at s (get_or short.now s 0)) }
+    ensures { IsTrue result → IfSome slot (λ s. HasFewThere codec.now marks.marked body.now marks.items s (get_or short.now s 0)) }
 {
     let Some(slot) = slot else {
         return true;
@@ -184,7 +189,7 @@ fn is_short(
     if few == 0 {
         return false;
     }
-    match marked_item(codec, marked, body, at, slot) {
+    match marked_item(codec, marks.marked, body, marks.items, slot) {
         Some(item) => item.octets().len() < few as usize,
         None => false,
     }
@@ -193,31 +198,26 @@ fn is_short(
 /// The octet after the record at octet `at`, if it is sure to stay as it is and to lose nothing: no slot but one of those that may
 /// not stay is marked, and its item is short. That is known before the record is walked over. None says nothing.
 #[inline]
-pub(crate) fn kept_end(
-    codec: &Codec,
-    rows: RecordRows<'_>,
-    kept: &KeptSlots,
-    body: &[u8],
-    at: u32,
-) -> Option<u32>
-    requires rows { AreRecordRows codec.now rows }
+pub(crate) fn kept_end(rows: &RecordRows<'_>, kept: &KeptSlots, body: &[u8], at: u32) -> Option<u32>
+    requires rows { AreRecordRows rows.now }
     requires short { length kept.now.short.items ≡ 127 }
     requires body { length body.now ≤ longest_body }
     requires at { at ≤ length body.now }
-    ensures { IfSome result (IsKeptAt codec.now kept.now body.now at) }
+    ensures { IfSome result (IsKeptAt rows.now.codec.now kept.now body.now at) }
 {
     let mut marked = Presence::empty();
-    let Ok(items) = read_presence(&codec.mask, body, at, &mut marked) else {
+    let Ok(items) = read_presence(&rows.codec.mask, body, at, &mut marked) else {
         return None;
     };
     let short = kept.short.as_slice();
     let mut leaving = marked.common(&kept.leaving);
     let first = leaving.take_first();
-    if leaving.take_first().is_some() || !is_short(codec, marked, body, items, first, short) {
+    let marks = MarkedSlots { marked, items };
+    if leaving.take_first().is_some() || !is_short(rows.codec, marks, body, first, short) {
         return None;
     }
     let mut notes = Notes::new();
-    let Some(found) = record_by_rows(codec, rows, body, at, &mut notes) else {
+    let Some(found) = record_by_rows(rows, body, at, &mut notes) else {
         return None;
     };
     if !notes.least {

@@ -2,11 +2,13 @@ use Rattle.std.proofs.Common.{List, arith, subst}
 use Rattle.ax_relation.specs.PlainMoves.{moves_tree}
 use Rattle.ax_relation.specs.declared.moves.Move.{Move}
 use Rattle.ax_codec.specs.Table.{record_kind_at}
+use Rattle.ax_codec.specs.declared.codec.Codec.{Codec}
 use Rattle.ax_format.specs.Tree.{marked}
 use Rattle.ax_moves.specs.Laying.{Lays}
 use Rattle.ax_moves.specs.Octets.{canon_by}
 use Rattle.ax_walk.specs.Placing.{entries_there}
 use Rattle.ax_migrate_views.proofs.KeptRecords.{kept_own, kept_read, kept_told}
+use Rattle.ax_migrate_views.specs.Kept.{IsKeptAt}
 use Rattle.ax_migrate_views.proofs.BodySteps.{body_first, body_next, body_fails, body_laid, body_told, body_spelled, body_goes_on}
 use Rattle.ax_moves.proofs.LaidRuns.{run_kept, run_moved}
 use Rattle.ax_moves.specs.Lost.{key_paths}
@@ -51,7 +53,7 @@ returns-clause-told c = body_told c.args.migrator.now.codec.now c.args.migrator.
 
 pub loop-here-smaller-in-Some : goal.loop-here-smaller-in-Some
 loop-here-smaller-in-Some c =
-    let k = c.in-Some.ensures in
+    let k = subst (λ (x : Codec). IsKeptAt x c.args.migrator.now.kept c.args.body.now c.loop-here.here c.in-Some.next) c.of-rows.ensures.codec c.in-Some.ensures in
     let read = kept_read c.args.migrator.now.codec.now c.args.migrator.now.relation.now.moves c.args.lost.keys.now c.args.migrator.now.kept c.args.body.now c.loop-here.here c.in-Some.next k c.requires.kept in
     omega (arith, body_goes_on c.args.migrator.now.codec.now c.args.body.now c.loop-here.here c.in-Some.next k.entries read, read.within)
 
@@ -63,7 +65,7 @@ loop-here-preserved-in-Some c =
     let body = c.args.body.now in
     let here = c.loop-here.here in
     let next = c.in-Some.next in
-    let k = c.in-Some.ensures in
+    let k = subst (λ (x : Codec). IsKeptAt x c.args.migrator.now.kept body here next) c.of-rows.ensures.codec c.in-Some.ensures in
     let read = kept_read codec moves keys c.args.migrator.now.kept body here next k c.requires.kept in
     let on = body_goes_on codec body here next k.entries read in
     let told = kept_told codec moves keys c.args.migrator.now.kept body here next k c.requires.kept c.args.lost.block c.loop-here.number c.loop-here.told c.loop-here.lines c.requires.runs (omega (arith, c.loop-here.invariant.counted)) in

@@ -6,8 +6,9 @@ ghost use Rattle.std.specs.Io.KnownBytes.{Appends, Keeps};
 use std::alloc::Global;
 use std::io::{self, ErrorKind, Write};
 
-/// The octets of output, and those of lines, that are held back at most.
-const ROOM: usize = 65_536;
+/// The octets of output, and those of lines, that are held back at most: more than are read at once, by the longest block, so that a
+/// command whose output isn't longer than its input writes once for each read.
+const ROOM: usize = 131_072;
 
 /// Which write failed. After it nothing is held back any more, and no octet is written.
 #[derive(Clone, Copy)]
@@ -71,6 +72,7 @@ impl<W: Write + Drop, P: Write + Drop> Held<W, P> {
     }
 
     /// Takes octets of the output, and answers how many. Where they don't fit, what is held back is written first.
+    #[inline(always)]
     #[tactic(auto, using(crate::proofs::Givens::after))]
     pub fn write_octets(&mut self, piece: &[u8]) -> io::Result<usize>
         ensures { TakesOctets self.old self.new piece.now result }
@@ -86,6 +88,7 @@ impl<W: Write + Drop, P: Write + Drop> Held<W, P> {
         }
     }
 
+    #[inline(always)]
     #[tactic(auto, using(crate::proofs::Givens::taken))]
     fn hold_octets(&mut self, piece: &[u8]) -> io::Result<usize>
         ensures takes { TakesOctets self.old self.new piece.now result }
@@ -99,6 +102,7 @@ impl<W: Write + Drop, P: Write + Drop> Held<W, P> {
         Ok(piece.len())
     }
 
+    #[inline(never)]
     #[tactic(auto, using(crate::proofs::Givens::taken))]
     fn pass_octets(&mut self, piece: &[u8]) -> io::Result<usize>
         requires none { WhereSound self.old.failed (self.old.octets.items ≡ []) }
@@ -168,7 +172,9 @@ impl<W: Write + Drop, P: Write + Drop> Held<W, P> {
         self.flush_all(Failed::Line);
     }
 
-    /// Writes what is held back. Where the lines behind the octets can't be written, that is told as `last`.
+    /// Writes what is held back. Where the lines behind the octets can't be written, that is told as `last`. It stands apart, so that
+    /// octets are held without a call.
+    #[inline(never)]
     #[tactic(auto, using(crate::proofs::Givens::flushed))]
     fn flush_all(&mut self, last: Failed)
         ensures out { WhereSound self.new.failed (Keeps (given_out self.old) (W.contents self.new.out)) }

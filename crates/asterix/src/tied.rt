@@ -49,6 +49,7 @@ impl<'s, W: Write + Drop, P: Write + Drop> TiedWriter<'s, W, P> {
 }
 
 impl<'s, W: Write + Drop, P: Write + Drop> Write for TiedWriter<'s, W, P> {
+    #[inline(always)]
     fn write(&mut self, piece: &[u8]) -> io::Result<usize> {
         match self.shared.try_borrow_mut() {
             Ok(mut held) => held.write_octets(piece),
@@ -103,6 +104,8 @@ impl<'s, R: Read, W: Write + Drop, P: Write + Drop> TiedReader<'s, R, W, P> {
 }
 
 impl<'s, R: Read, W: Write + Drop, P: Write + Drop> Read for TiedReader<'s, R, W, P> {
+    // It stands apart, so that what is buffered is read without a call.
+    #[inline(never)]
     fn read(&mut self, into: &mut [u8]) -> io::Result<usize> {
         flush_shared(self.shared);
         self.inner.read(into)

@@ -70,6 +70,7 @@ impl<'b> Out<'b> {
     }
 
     /// Appends the bits of octets: where whole octets were written, by one copy.
+    #[inline]
     pub fn push_octets(&mut self, octets: &[u8])
         requires { 8 * length octets.now ≤ room self.old }
         ensures { Appends self.old self.new (bits octets.now) }
@@ -82,7 +83,9 @@ impl<'b> Out<'b> {
         }
     }
 
-    // Appends octets after bits that fill no whole octet.
+    // Appends octets after bits that fill no whole octet. It stands apart, so that a copy of octets is made without a call.
+    #[cold]
+    #[inline(never)]
     fn push_each(&mut self, octets: &[u8])
         requires { 8 * length octets.now ≤ room self.old }
         ensures { Appends self.old self.new (bits octets.now) }

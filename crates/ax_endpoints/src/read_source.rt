@@ -51,6 +51,7 @@ impl<R: Read> Source for ReadSource<R> {
 
     ghost taken = { λ s. s.taken };
 
+    #[inline]
     fn read(&mut self, into: &mut [u8]) -> Result<usize, SourceFailed>
         ensures room { IfOk result (λ n. n ≤ length into.new) }
         ensures passes { IfOk result (λ n. Consumes (R.remaining self.old.inner) (R.remaining self.new.inner) (take n into.new)) }

@@ -30,6 +30,7 @@ pub fn write_all_of<K: Sink>(sink: &mut K, piece: &[u8]) -> Result<(), SinkFaile
 ///
 /// At `SourceFailed` the octets read so far stand at the front of the buffer, which they don't fill, and the source
 /// counted a fault. No call is made after one that failed: one fault at most is counted, and none where it succeeds.
+#[inline]
 #[tactic(auto, using(crate::proofs::Ends::steps))]
 pub fn fill<S: Source>(source: &mut S, buffer: &mut [u8]) -> Result<usize, SourceFailed>
     ensures room { IfOk result (λ n. n ≤ length buffer.new) }

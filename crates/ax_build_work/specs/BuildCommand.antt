@@ -17,11 +17,15 @@ use Rattle.ax_tokens.specs.PlainToken.{PlainToken}
 abbrev pub deepest : ℕ
 deepest = 20
 
+-- the canonical octets of a block that fits the catalogue
+abbrev pub canon_under : List SpecTree → BlockTree → List ℕ
+canon_under catalogue block = canon_over (spec_of (category_of block) catalogue) block
+
 -- the tokens are the text of a block, and these are its canonical octets
 pub record IsBuiltOf (catalogue : List SpecTree) (tokens : List PlainToken) (octets : List ℕ) : Type 0 where
   pub block : BlockTree
   pub text : IsTextOf catalogue tokens block
-  pub canonical : octets ≡ canon_over (spec_of (category_of block) catalogue) block
+  pub canonical : octets ≡ canon_under catalogue block
 
 -- the tokens are no block's text, or that of a block that is too long
 abbrev pub IsRefusedFor : List SpecTree → List PlainToken → TextFault → Type 0

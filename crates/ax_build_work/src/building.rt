@@ -2,14 +2,12 @@
 ghost use Rattle.std.specs.Prelude.{◌≡◌, ◌≤◌, ◌^◌, length, IfOk, IfErr, MatchOption};
 ghost use Rattle.ax_block_reader.specs.BlockTexts.{canonical_length};
 ghost use Rattle.ax_text_form.specs.CatalogueBlocks.{IsBlockOf};
-ghost use Rattle.ax_build_work.specs.BuildCommand.{IsBuiltOf, AnswersLine};
+ghost use Rattle.ax_build_work.specs.BuildCommand.{AnswersLine, IsBuiltOf, canon_under};
 ghost use Rattle.ax_build_work.specs.Stops.{NotBuilt, StopsLine};
 ghost use Rattle.ax_lines.specs.Commands.{gives, nothing};
 ghost use Rattle.ax_lines.specs.Ending.{longest_line};
-ghost use Rattle.ax_format.specs.CanonicalOctets.{canon_over, category_of};
 ghost use Rattle.ax_format.specs.Plain.{catalogue_tree, block_tree};
 ghost use Rattle.ax_format.specs.Sizes.{longest_block};
-ghost use Rattle.ax_format.specs.Specification.{spec_of};
 
 use crate::fault::BuildStop;
 use crate::opaque::opaque_block;
@@ -35,7 +33,7 @@ fn canonical_octets(
     requires fits { IsBlockOf (catalogue_tree items.now) (block_tree block.now) }
     requires count { count ≡ canonical_length (catalogue_tree items.now) (block_tree block.now) }
     requires within { count ≤ longest_block }
-    ensures { IfOk result (λ made. made.items ≡ canon_over (spec_of (category_of (block_tree block.now)) (catalogue_tree items.now)) (block_tree block.now)) }
+    ensures { IfOk result (λ made. made.items ≡ canon_under (catalogue_tree items.now) (block_tree block.now)) }
 {
     match block {
         Block::Opaque { category, octets } => opaque_block(alloc, *category, octets.as_slice()),

@@ -1,3 +1,4 @@
 pub mod ConvertCommand
 pub mod Making
+pub mod OfCode
 pub mod Standing

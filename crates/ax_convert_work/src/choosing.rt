@@ -2,6 +2,7 @@
 ghost use Rattle.std.specs.Prelude.{◌≡◌, false, IfOk};
 ghost use Rattle.ax_blocks.specs.Reader.{raw_tree};
 ghost use Rattle.ax_convert_work.specs.ConvertCommand.{convert_command};
+ghost use Rattle.ax_convert_work.specs.OfCode.{command_between};
 ghost use Rattle.ax_convert_work.specs.Standing.{TellsMayConvert};
 ghost use Rattle.ax_migrate_views.specs.Blocks.{new_tree, old_tree};
 ghost use Rattle.ax_format.specs.Plain.{spec_tree};
@@ -42,7 +43,7 @@ impl<'m, 'c> ConvertBlocks<'m, 'c> {
         requires related { Relates old.now new.now relation.now }
         requires old { old_tree migrator.now ≡ spec_tree old.now }
         requires new { new_tree migrator.now ≡ spec_tree new.now }
-        ensures command { IfOk result (λ work. ⟦<ConvertBlocks<'m, 'c> as BlockWork>⟧.command work ≡ convert_command (old_tree migrator.now) (new_tree migrator.now)) }
+        ensures command { IfOk result (λ work. ⟦<ConvertBlocks<'m, 'c> as BlockWork>⟧.command work ≡ command_between migrator.now) }
         ensures sound { IfOk result (λ work. ⟦<ConvertBlocks<'m, 'c> as BlockWork>⟧.sound work) }
     {
         let slots = ax_rescale::converting_slots(alloc, old.spec(), new.spec())?;

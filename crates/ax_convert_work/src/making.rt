@@ -1,7 +1,8 @@
 //! What is made of a block: all of its memory is taken here, and nothing is written.
 ghost use Rattle.std.specs.Prelude.{◌≡◌, IfOk, IfErr};
 ghost use Rattle.ax_blocks.specs.Reader.{raw_tree};
-ghost use Rattle.ax_convert_work.specs.Making.{IsMade, IsReadBlock, NotMade};
+ghost use Rattle.ax_convert_work.specs.Making.{IsReadBlock, NotMade};
+ghost use Rattle.ax_convert_work.specs.OfCode.{IsMadeBy};
 ghost use Rattle.ax_format.specs.OfCode.{HasNoFlaw};
 ghost use Rattle.ax_format.specs.Plain.{spec_tree};
 ghost use Rattle.ax_format.specs.Specification.{SpecTree};
@@ -46,7 +47,7 @@ pub(crate) fn make(
 ) -> Result<Made, WorkStop>
     requires is { IsConverter converter.now }
     requires items { items.now.spec.now ≡ converter.now.new.now }
-    ensures made { IfOk result (λ made. IsMade (spec_tree converter.now.old.now) (spec_tree converter.now.new.now) (raw_tree raw.now) made.misses made.blocks) }
+    ensures made { IfOk result (λ made. IsMadeBy converter.now (raw_tree raw.now) made.misses made.blocks) }
     ensures stop { IfErr result (NotMade (spec_tree converter.now.old.now) (spec_tree converter.now.new.now) (raw_tree raw.now)) }
 {
     let block = match read_raw(alloc, converter.old_edition(), raw) {

@@ -1,8 +1,6 @@
 //! The lines of the records of a block.
 ghost use Rattle.std.specs.Prelude.{◌≡◌, ◌++◌, OnOk};
-ghost use Rattle.ax_expand.specs.Expansion.{expansion_tree};
-ghost use Rattle.ax_expand_work.specs.ExpandCommand.{content_at};
-ghost use Rattle.ax_expand_work.specs.Gathering.{GathersContent, GathersBlock};
+ghost use Rattle.ax_expand_work.specs.Gathering.{GathersRecord, GathersView};
 ghost use Rattle.ax_walk.specs.Shown.{record_entries};
 
 use crate::contents::{ContentLines, gather_content};
@@ -26,7 +24,7 @@ fn gather_record(
     one: &RecordView<'_, '_>,
     lines: &mut ContentLines,
 ) -> Result<(), AllocError>
-    ensures { OnOk result (GathersContent (expansion_tree re.entry.expansion.now) name.block name.number (content_at re.entry.frn (record_entries one.now)) lines.old lines.new) }
+    ensures { OnOk result (GathersRecord re.entry name (record_entries one.now) lines.old lines.new) }
 {
     let Some(item) = one.item(re.frn) else {
         return Ok(());
@@ -45,7 +43,7 @@ pub(crate) fn gather_block(
     view: &BlockView<'_, '_>,
     lines: &mut ContentLines,
 ) -> Result<(), AllocError>
-    ensures { OnOk result (GathersBlock (expansion_tree re.entry.expansion.now) re.entry.frn block view.now.codec.now view.now.body.now lines.old lines.new) }
+    ensures { OnOk result (GathersView re.entry block view.now lines.old lines.new) }
 {
     let mut records = view.records();
     for number in 0..view.count() {

@@ -11,7 +11,7 @@ ghost use Rattle.ax_rescale.specs.Under.{all_misses_under, conversion_misses, co
 ghost use Rattle.ax_rescale.specs.Watching.{AreWatched};
 ghost use Rattle.ax_rescale.specs.Ways.{record_ways};
 
-use crate::missing::{Misses, miss_record};
+use crate::missing::{ConvertedRecord, Misses, miss_record};
 use crate::passing::passed_entries;
 use crate::watches::{Watches, watch_all};
 use crate::ways::{Ways, ways_of_items};
@@ -122,7 +122,12 @@ impl<'x> Converter<'x> {
         ensures misses { OnOk result (misses.new ≡ misses.old ++ conversion_misses self.now number (record_tree one.now)) }
     {
         let entries = passed_entries(alloc, &self.ways, &one.entries)?;
-        miss_record(alloc, self, misses, number, &one.entries, &entries)?;
+        let converted = ConvertedRecord {
+            number,
+            entries: &one.entries,
+            made: &entries,
+        };
+        miss_record(alloc, self, misses, converted)?;
         Ok(Record { entries })
     }
 

@@ -53,32 +53,38 @@ fn push_miss(
     })
 }
 
-/// Appends what the conversion of a record of that number misses: its entries, and those that were made of them.
+/// A record that was converted: its number in its block, its entries, and those that were made of them.
+#[derive(Clone, Copy)]
+pub(crate) struct ConvertedRecord<'e> {
+    pub(crate) number: u32,
+    pub(crate) entries: &'e Entries,
+    pub(crate) made: &'e Entries,
+}
+
+/// Appends what the conversion of a record misses.
 pub(crate) fn miss_record(
     alloc: Global,
     converter: &Converter<'_>,
     misses: &mut Misses,
-    number: u32,
-    entries: &Entries,
-    made: &Entries,
+    one: ConvertedRecord<'_>,
 ) -> Result<(), AllocError>
     requires watched { IsWatching converter.now }
     requires all { length converter.now.watches ≡ length converter.now.relation.now.paths }
-    ensures { OnOk result (misses.new ≡ misses.old ++ misses_under converter.now number (entries_tree entries.now) (entries_tree made.now)) }
+    ensures { OnOk result (misses.new ≡ misses.old ++ misses_under converter.now one.entry.number (entries_tree one.entry.entries.now) (entries_tree one.entry.made.now)) }
 {
     let watches = converter.watches.as_slice();
     let mut at: usize = 0;
     while at < watches.len() {
-        let one = &watches[at];
+        let watch = &watches[at];
         at += 1;
-        match value_standing(entries, &one.path.old) {
+        match value_standing(one.entries, &watch.path.old) {
             Some(value) => {
-                if is_missed(one, value, made) {
-                    push_miss(alloc, misses, number, one)?;
+                if is_missed(watch, value, one.made) {
+                    push_miss(alloc, misses, one.number, watch)?;
                 }
             }
             // Nothing stands below either.
-            None => at += one.skip as usize,
+            None => at += watch.skip as usize,
         }
     }
     Ok(())

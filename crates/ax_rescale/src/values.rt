@@ -126,7 +126,12 @@ fn convert_slots(
         let Some((own, after)) = others.split_first() else {
             return Ok(None);
         };
-        let Some(later) = convert_slot(alloc, number, slot, own, rest, &mut made)? else {
+        let slots = SlotsOfNumber {
+            number,
+            old: slot,
+            new: own,
+        };
+        let Some(later) = convert_slot(alloc, slots, rest, &mut made)? else {
             return Ok(None);
         };
         number += 1;
@@ -140,30 +145,36 @@ fn convert_slots(
     }
 }
 
-/// Appends the entry to which this slot's entry is converted, if there is one, and answers the entries after it. None comes
+/// The slots of one number, from 1, of the old compound and the new one.
+#[derive(Clone, Copy)]
+struct SlotsOfNumber<'s> {
+    number: u64,
+    old: &'s Slot,
+    new: &'s Slot,
+}
+
+/// Appends the entry to which the old slot's entry is converted, if there is one, and answers the entries after it. None comes
 /// where it has no converted value, or one of the two slots is spare.
 #[cycle(convert_value)]
 #[tactic(auto, using(crate::proofs::EntrySteps::slot_steps))]
 fn convert_slot<'e>(
     alloc: Global,
-    number: u64,
-    old: &Slot,
-    new: &Slot,
+    slots: SlotsOfNumber<'_>,
     entries: &'e [Entry],
     made: &mut Entries,
 ) -> Result<Option<&'e [Entry]>, AllocError>
-    requires old { SlotScaled (slot_tree old.now) }
-    requires new { SlotScaled (slot_tree new.now) }
-    requires shape { SlotShape number (slot_tree old.now) (entries_tree entries.now) }
+    requires old { SlotScaled (slot_tree slots.old.now) }
+    requires new { SlotScaled (slot_tree slots.new.now) }
+    requires shape { SlotShape slots.number (slot_tree slots.old.now) (entries_tree entries.now) }
     requires room { length made.old < 4294967295 }
     ensures { IfOk result (λ left. MatchOption left
-        (NoSlotStep number (slot_tree old.now) (slot_tree new.now) (entries_tree entries.now))
-        (λ rest. SlotStep number (slot_tree old.now) (slot_tree new.now) (entries_tree entries.now) (entries_tree rest.now) made.old made.new)) }
+        (NoSlotStep slots.entry.number (slot_tree slots.entry.old.now) (slot_tree slots.entry.new.now) (entries_tree entries.now))
+        (λ rest. SlotStep slots.entry.number (slot_tree slots.entry.old.now) (slot_tree slots.entry.new.now) (entries_tree entries.now) (entries_tree rest.now) made.old made.new)) }
 {
-    match (old, new) {
+    match (slots.old, slots.new) {
         (Slot::Spare, Slot::Spare) => Ok(Some(entries)),
         (Slot::Sub { kind, .. }, Slot::Sub { kind: own, .. }) => match entries.split_first() {
-            Some((entry, later)) if u64::from(entry.slot) == number => {
+            Some((entry, later)) if u64::from(entry.slot) == slots.number => {
                 let Some(value) = convert_value(alloc, kind, own, &entry.value)? else {
                     return Ok(None);
                 };

@@ -3,8 +3,9 @@ ghost use Rattle.std.specs.Prelude.{◌≡◌, ◌++◌, ◌∷◌, [], IfOk, On
 ghost use Rattle.ax_edition.specs.Index.{found};
 ghost use Rattle.ax_edition.specs.SlotItems.{item_slot, items_tree};
 ghost use Rattle.ax_format.specs.Plain.{kind_tree, slot_tree, slots_tree};
+ghost use Rattle.ax_format.specs.Tree.{subitem};
 ghost use Rattle.ax_rescale.specs.PlainWays.{AddsWays, way_tree};
-ghost use Rattle.ax_rescale.specs.Ways.{slot_ways, way_where, ways_below, ways_of};
+ghost use Rattle.ax_rescale.specs.Ways.{slot_ways, ways_below, ways_of};
 
 use crate::alike::is_alike;
 use ax_edition::{Index, SlotItems, index_below, is_shared, shared_parts};
@@ -44,20 +45,27 @@ fn push<'k>(ways: &mut Ways<'k>, one: Way<'k>) -> Result<(), AllocError>
     ways.push(one)
 }
 
-/// Appends the way to a new slot of that name, number and kind, if there is an old slot whose value passes or is converted.
+/// A named slot of the new edition: its name, and its number, from 1.
+#[derive(Clone, Copy)]
+struct NamedSlot<'n> {
+    name: &'n Name,
+    number: u32,
+}
+
+/// Appends the way to a new slot of that kind, if there is an old slot whose value passes or is converted.
 #[cycle(ways_of)]
 #[tactic(auto, using(crate::proofs::WayLists::puts))]
 fn way_to<'k>(
     alloc: Global,
     kind: &'k Kind,
-    name: &Name,
-    number: u32,
+    new: NamedSlot<'_>,
     old: &Index<'k>,
     ways: &mut Ways<'k>,
 ) -> Result<(), AllocError>
-    ensures { OnOk result (AddsWays ways.old ways.new (way_where number (kind_tree kind.now) (found old.now name.now) (ways_below (kind_tree kind.now)))) }
+    ensures { OnOk result (AddsWays ways.old ways.new (slot_ways new.entry.number (subitem new.entry.name.now (kind_tree kind.now)) (found old.now))) }
 {
-    let Some((from, own)) = old.find(name) else {
+    let number = new.number;
+    let Some((from, own)) = old.find(new.name) else {
         return Ok(());
     };
     if is_shared(own, kind) {
@@ -120,7 +128,10 @@ fn way_to_slot<'k>(
 {
     match slot {
         Slot::Spare => Ok(()),
-        Slot::Sub { name, kind } => way_to(alloc, kind, name, number, old, ways),
+        Slot::Sub { name, kind } => {
+            let new = NamedSlot { name, number };
+            way_to(alloc, kind, new, old, ways)
+        }
     }
 }
 
@@ -150,7 +161,13 @@ fn way_to_item<'k>(
 {
     match item {
         None => Ok(()),
-        Some(item) => way_to(alloc, &item.kind, &item.name, number, old, ways),
+        Some(item) => {
+            let new = NamedSlot {
+                name: &item.name,
+                number,
+            };
+            way_to(alloc, &item.kind, new, old, ways)
+        }
     }
 }
 

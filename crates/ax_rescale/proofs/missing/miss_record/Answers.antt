@@ -14,7 +14,7 @@ loop-at-preserved-in-Continue-1 c =
     let watched = subst (λ (ws : List Watch). AreWatched (spec_tree c.args.converter.now.old.now) (spec_tree c.args.converter.now.new.now) ws c.args.converter.now.relation.now.paths) (sym c.as_slice-watches.ensures.members) c.requires.watched in
     let a = watched_at _ _ c.as_slice-watches.result.now c.args.converter.now.relation.now.paths c.loop-at.at c.index-watches-at.result (search rules) (search rules) watched in (
       omega arith,
-      missed_step _ _ c.args.number (entries_tree c.args.entries.now) (entries_tree c.args.made.now) c.index-watches-at.result c.args.converter.now.relation.now.paths c.loop-at.at c.loop-at.misses _ a c.loop-at.invariant.1
+      missed_step _ _ c.args.one.number (entries_tree c.args.one.entries.now) (entries_tree c.args.one.made.now) c.index-watches-at.result c.args.converter.now.relation.now.paths c.loop-at.at c.loop-at.misses _ a c.loop-at.invariant.1
           (value_tree c.in-Some.value.now) c.is_missed.result c.push_miss.new.misses (sym c.in-Some.ensures) c.is_missed.ensures c.if-is_missed.true c.in_ok-push_miss-in-Some.ensures,
     )
 
@@ -23,7 +23,7 @@ loop-at-preserved-else-is_missed c =
     let watched = subst (λ (ws : List Watch). AreWatched (spec_tree c.args.converter.now.old.now) (spec_tree c.args.converter.now.new.now) ws c.args.converter.now.relation.now.paths) (sym c.as_slice-watches.ensures.members) c.requires.watched in
     let a = watched_at _ _ c.as_slice-watches.result.now c.args.converter.now.relation.now.paths c.loop-at.at c.index-watches-at.result (search rules) (search rules) watched in (
       omega arith,
-      kept_step _ _ c.args.number (entries_tree c.args.entries.now) (entries_tree c.args.made.now) c.index-watches-at.result c.args.converter.now.relation.now.paths c.loop-at.at c.loop-at.misses _ a c.loop-at.invariant.1
+      kept_step _ _ c.args.one.number (entries_tree c.args.one.entries.now) (entries_tree c.args.one.made.now) c.index-watches-at.result c.args.converter.now.relation.now.paths c.loop-at.at c.loop-at.misses _ a c.loop-at.invariant.1
           (value_tree c.in-Some.value.now) c.is_missed.result (sym c.in-Some.ensures) c.is_missed.ensures c.if-is_missed.false,
     )
 
@@ -34,11 +34,11 @@ loop-at-preserved c =
     let few = few_left _ _ c.index-watches-at.result c.args.converter.now.relation.now.paths c.loop-at.at a in
     let same : length c.as_slice-watches.result.now ≡ length c.args.converter.now.relation.now.paths = ap (λ (ws : List Watch). length ws) c.as_slice-watches.ensures.members ∙ c.requires.all in (
       omega (arith, few, same),
-      absent_step _ _ c.args.number (entries_tree c.args.entries.now) (entries_tree c.args.made.now) c.index-watches-at.result c.args.converter.now.relation.now.paths c.loop-at.at c.loop-at.misses _ a c.loop-at.invariant.1
+      absent_step _ _ c.args.one.number (entries_tree c.args.one.entries.now) (entries_tree c.args.one.made.now) c.index-watches-at.result c.args.converter.now.relation.now.paths c.loop-at.at c.loop-at.misses _ a c.loop-at.invariant.1
           (sym c.in-None.ensures),
     )
 
 pub returns : goal.returns
 returns c =
     let same : length c.as_slice-watches.result.now ≡ length c.args.converter.now.relation.now.paths = ap (λ (ws : List Watch). length ws) c.as_slice-watches.ensures.members ∙ c.requires.all in
-    all_found (spec_tree c.args.converter.now.old.now) (spec_tree c.args.converter.now.new.now) c.args.number (entries_tree c.args.entries.now) (entries_tree c.args.made.now) c.args.converter.now.relation.now.paths c.loop-at.at c.loop-at.misses _ (omega (arith, same)) c.loop-at.invariant.1
+    all_found (spec_tree c.args.converter.now.old.now) (spec_tree c.args.converter.now.new.now) c.args.one.number (entries_tree c.args.one.entries.now) (entries_tree c.args.one.made.now) c.args.converter.now.relation.now.paths c.loop-at.at c.loop-at.misses _ (omega (arith, same)) c.loop-at.invariant.1

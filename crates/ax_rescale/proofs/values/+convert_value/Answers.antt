@@ -8,7 +8,7 @@ use Rattle.ax_rescale.proofs.GroupSteps.{if_some, if_none, match_some, match_non
 use Rattle.ax_rescale.proofs.CountedKinds.{none_inner, made_inner, scaled_inner, shape_inner}
 use Rattle.ax_rescale.proofs.Weights.{weights, inner_weight, member_weight}
 use Rattle.ax_rescale.proofs.values.+convert_value.Goals as goal
-use Rattle.ax_rescale.proofs.values.+convert_value.Goals.{convert_slot-in_default-split_first-via-in-Some+else-from-number, convert_slot-in_default-split_first-via-in_default-split_first}
+use Rattle.ax_rescale.proofs.values.+convert_value.Goals.{convert_slot-in_default-split_first-via-in-Some+else-from-slots, convert_slot-in_default-split_first-via-in_default-split_first}
 
 -- ---- occurrences
 
@@ -81,7 +81,7 @@ convert_value-returns-in-Some-clause-some t c =
 
 pub convert_slot-returns-in_default-split_first : goal.convert_slot-returns-in_default-split_first
 convert_slot-returns-in_default-split_first t c = elim c.in_default-split_first.branch [
-  | convert_slot-in_default-split_first-via-in-Some+else-from-number w ↦ step_as _ _ _ _ _ _ _ _ _ (sub_is _ _ _ c.in-Sub-Sub.is-0) (sub_is _ _ _ c.in-Sub-Sub.is-1) (sub_later _ _ _ _ _ _ _ _ _ w.in-Some.ensures.cases.0 (search rules))
+  | convert_slot-in_default-split_first-via-in-Some+else-from-slots w ↦ step_as _ _ _ _ _ _ _ _ _ (sub_is _ _ _ c.in-Sub-Sub.is-0) (sub_is _ _ _ c.in-Sub-Sub.is-1) (sub_later _ _ _ _ _ _ _ _ _ w.in-Some.ensures.cases.0 (search rules))
   | convert_slot-in_default-split_first-via-in_default-split_first w ↦ step_as _ _ _ _ _ _ _ _ _ (sub_is _ _ _ c.in-Sub-Sub.is-0) (sub_is _ _ _ c.in-Sub-Sub.is-1) (sub_empty _ _ _ _ _ _ _ w.in_default-split_first.ensures.cases)
 ]
 

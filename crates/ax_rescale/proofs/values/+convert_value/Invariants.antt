@@ -17,7 +17,7 @@ abbrev pub decreases-convert_slots : goal.decreases-convert_slots
 decreases-convert_slots l = 2 * weights (slots_tree l.old.now) + 1
 
 abbrev pub decreases-convert_slot : goal.decreases-convert_slot
-decreases-convert_slot l = 2 * slot_weight (slot_tree l.old.now)
+decreases-convert_slot l = 2 * slot_weight (slot_tree l.slots.old.now)
 
 abbrev pub invariant-convert_each-loop-value : goal.invariant-convert_each-loop-value
 invariant-convert_each-loop-value l =

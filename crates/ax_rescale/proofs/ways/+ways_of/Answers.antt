@@ -19,12 +19,12 @@ ways_of_slots-returns t c = slots_end c.loop-slot.slot-index c.loop-slot.before 
 pub way_to-returns-then-is_shared : goal.way_to-returns-then-is_shared
 way_to-returns-then-is_shared t c =
     when_ok c.push.result _ _
-    (shared_put c.args.number (kind_tree c.args.kind.now) (found c.args.old.now c.args.name.now) c.args.ways.now c.in-Some.from c.shared_parts-parts.result (kind_tree c.in-Some.own.now) c.push.new.ways c.in_ok-below.below _ (search rules) (search rules) (search rules) (search rules) (way_is c.in-Some.from c.args.number None c.shared_parts-parts.result c.in_ok-below.below))
+    (shared_put c.args.new.number (kind_tree c.args.kind.now) (found c.args.old.now c.args.new.name.now) c.args.ways.now c.in-Some.from c.shared_parts-parts.result (kind_tree c.in-Some.own.now) c.push.new.ways c.in_ok-below.below _ (search rules) (search rules) (search rules) (search rules) (way_is c.in-Some.from c.args.new.number None c.shared_parts-parts.result c.in_ok-below.below))
     c.push.ensures
 
 pub way_to-returns : goal.way_to-returns
 way_to-returns t c =
     when_ok c.push-2.result _ _
-    (alike_put c.args.number (kind_tree c.args.kind.now) (found c.args.old.now c.args.name.now) c.args.ways.now c.in-Some.from (kind_tree c.in-Some.own.now) c.push-2.new.ways _ (search rules) (search rules) (search rules)
-    (way_is c.in-Some.from c.args.number _ 0 c.new.result ∙ ap (λ (l : List Way). way_from c.in-Some.from c.args.number (Some (record { old = kind_tree c.in-Some.own.now; new = kind_tree c.args.kind.now })) 0 (ways_from (map way_tree l))) c.new.ensures))
+    (alike_put c.args.new.number (kind_tree c.args.kind.now) (found c.args.old.now c.args.new.name.now) c.args.ways.now c.in-Some.from (kind_tree c.in-Some.own.now) c.push-2.new.ways _ (search rules) (search rules) (search rules)
+    (way_is c.in-Some.from c.args.new.number _ 0 c.new.result ∙ ap (λ (l : List Way). way_from c.in-Some.from c.args.new.number (Some (record { old = kind_tree c.in-Some.own.now; new = kind_tree c.args.kind.now })) 0 (ways_from (map way_tree l))) c.new.ensures))
     c.push-2.ensures

@@ -14,6 +14,7 @@ pub mod expand;
 pub mod expand_examples;
 pub mod expand_lines;
 pub mod expand_lines_examples;
+pub mod extent_examples;
 pub mod filter;
 pub mod filter_examples;
 pub mod filtered_blocks;

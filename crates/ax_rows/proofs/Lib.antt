@@ -1,2 +1,3 @@
 pub mod RowLists
 pub mod SlotSteps
+pub mod StandingRows

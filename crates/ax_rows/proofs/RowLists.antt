@@ -4,7 +4,7 @@ use Rattle.ax_fspec.specs.Marks.{seven}
 use Rattle.ax_rows.specs.Rows.{row_of, no_step, no_row, HaveRow, Stands, IsRowIfAny, EachRow, AreRows, Extends}
 use Rattle.ax_rows.specs.declared.step.Step.{Step}
 
-get_front : (xs ys : List Step) (i : ℕ) → i < length xs → get_or (xs ++ ys) i no_step ≡ get_or xs i no_step
+pub get_front : (xs ys : List Step) (i : ℕ) → i < length xs → get_or (xs ++ ys) i no_step ≡ get_or xs i no_step
 get_front [] ys i lt = absurd (omega arith)
 get_front (x ∷ xs) ys zero lt = refl
 get_front (x ∷ xs) ys (suc i) lt = get_front xs ys i (omega arith)
@@ -13,7 +13,7 @@ get_back : (xs : List Step) (y : Step) (ys : List Step) → get_or (xs ++ y ∷ 
 get_back [] y ys = refl
 get_back (x ∷ xs) y ys = get_back xs y ys
 
-stands_more : (steps more : List Step) (i : ℕ) (row : List Step) → Stands steps i row → Stands (steps ++ more) i row
+pub stands_more : (steps more : List Step) (i : ℕ) (row : List Step) → Stands steps i row → Stands (steps ++ more) i row
 stands_more steps more i [] h = tt
 stands_more steps more i (one ∷ row) h = (omega (arith, h.0, length-append steps more), get_front steps more i h.0 ∙ h.1, stands_more steps more (suc i) row h.2)
 

@@ -50,6 +50,11 @@ abbrev pub Stands : List Step → ℕ → List Step → Type 0
 Stands steps i [] = Unit {0}
 Stands steps i (one ∷ row) = (i < length steps) × (get_or steps i no_step ≡ one) × Stands steps (suc i) row
 
+-- the last steps, those from `first` on, stand at that place too, before themselves
+pub record StandsBefore (steps : List Step) (place first : ℕ) : Type 0 where
+  pub before : place + (length steps - first) ≤ first
+  pub stands : Stands steps place (drop first steps)
+
 -- no row
 abbrev pub no_row : ℕ
 no_row = 4294967295
@@ -75,6 +80,12 @@ pub record AreRows (octets links start : List ℕ) (steps : List Step) : Type 0 
 
 abbrev pub AreRowsOf : List ℕ → SlotRows → Type 0
 AreRowsOf octets r = AreRows octets r.slots.items r.start.items r.steps.items
+
+-- what was appended to the list, if anything, stood nowhere in it
+pub record AddsOnce (old new : List Step) : Type 0 where
+  pub row : List Step
+  pub grown : new ≡ old ++ row
+  pub once : 0 < length row → (place : ℕ) → place + length row ≤ length old → Stands old place row → ⊥
 
 -- the list goes on after another
 pub record Extends (old new : List Step) : Type 0 where

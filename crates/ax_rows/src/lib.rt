@@ -2,6 +2,7 @@
 #![tactic(auto)]
 
 mod making;
+mod sharing;
 mod slot_rows;
 mod step;
 

@@ -2,8 +2,9 @@
 ghost use Rattle.std.specs.Prelude.{◌≡◌, ◌↔◌, ◌+◌, ◌-◌, ◌*◌, ◌/◌, ◌%◌, ◌<◌, ◌≤◌, ◌++◌, [], length, drop, get_or, IfOk, OnOk, IsTrue};
 ghost use Rattle.std.specs.List.{AllByRecursion};
 ghost use Rattle.ax_fspec.specs.Marks.{seven};
-ghost use Rattle.ax_rows.specs.Rows.{row_of, AddsSlot, CanBeMarked, HaveRow, IsRowIfAny, AreRows, Extends};
+ghost use Rattle.ax_rows.specs.Rows.{row_of, AddsSlot, CanBeMarked, HaveRow, IsRowIfAny, AreRows, AddsOnce, Extends};
 
+use crate::sharing::earlier_place;
 use crate::step::Step;
 use std::alloc::AllocError;
 
@@ -99,7 +100,7 @@ fn push_row(
     Ok(())
 }
 
-/// Appends the row, where these slots have one. Ok is the number of its first step, or `NO_ROW`.
+/// Appends the row, where these slots have one and it doesn't stand there yet. Ok is the number of its first step, or `NO_ROW`.
 fn push_row_if_any(
     octets: &[u32],
     slots: &[u32],
@@ -108,6 +109,7 @@ fn push_row_if_any(
 ) -> Result<u32, AllocError>
     requires links { AllByRecursion (λ link. link ≤ length octets.now) slots.now }
     ensures row { IfOk result (λ first. IsRowIfAny octets.now slots.now (seven marks) steps.new.items first) }
+    ensures once { OnOk result (AddsOnce steps.old.items steps.new.items) }
     ensures kept { Extends steps.old.items steps.new.items }
 {
     if !have_row(octets, slots, marks) {
@@ -118,6 +120,10 @@ fn push_row_if_any(
         return Err(AllocError);
     }
     push_row(octets, slots, marks, steps)?;
+    if let Some(place) = earlier_place(steps.as_slice(), first) {
+        steps.truncate(first);
+        return Ok(place as u32);
+    }
     Ok(first as u32)
 }
 

@@ -1,5 +1,5 @@
 -- Rows that stand among the steps already.
-use Rattle.std.proofs.Common.{◌≡◌, ℕ, zero, suc, ◌+◌, ◌<◌, ◌≤◌, List, [], ◌∷◌, ◌++◌, length, drop, take, get_or, refl, sym, ◌∙◌, ap, arith, subst, append-nil, length-append, length-drop}
+use Rattle.std.proofs.Common.{◌≡◌, ℕ, zero, suc, ◌+◌, ◌<◌, ◌≤◌, List, [], ◌∷◌, ◌++◌, length, drop, take, get_or, refl, sym, ◌∙◌, ap, arith, subst, length-append, length-drop}
 use lib.Seq.{drop-cons, get_or-drop}
 use Rattle.ax_rows.specs.Rows.{row_of, no_step, no_row, HaveRow, Stands, StandsBefore, IsRowIfAny, AddsOnce}
 use Rattle.ax_rows.specs.declared.step.Step.{Step}
@@ -70,12 +70,9 @@ row_stood octets links marks old new cut first place has e f lt h is = record {
     cut_is : cut ≡ old
     cut_is = is ∙ ap (λ n. take n new) f ∙ ap (λ xs. take (length old) xs) e ∙ old_steps old row
 
-pub nothing_added : (old cut : List Step) → cut ≡ old → AddsOnce old cut
-nothing_added old cut is = record { row = []; grown = is ∙ sym (append-nil old); once = λ lt. absurd (omega arith) }
-
-pub row_added : (old new row : List Step) (first : ℕ) → new ≡ old ++ row → first ≡ length old → ((place : ℕ) → place < first → StandsBefore new place first → ⊥) → AddsOnce old new
-row_added old new row first e f none = record {
+pub row_added : (from : ℕ) (old new row : List Step) (first : ℕ) → new ≡ old ++ row → first ≡ length old → ((place : ℕ) → from ≤ place → place < first → StandsBefore new place first → ⊥) → AddsOnce from old new
+row_added from old new row first e f none = record {
   row = row;
   grown = e;
-  once = λ lt place le h. none place (omega (arith, le, lt, f)) (subst (λ n. StandsBefore new place n) (sym f) (subst (λ xs. StandsBefore xs place (length old)) (sym e) (stands_before_itself old row place le h)));
+  once = λ lt place after le h. none place after (omega (arith, le, lt, f)) (subst (λ n. StandsBefore new place n) (sym f) (subst (λ xs. StandsBefore xs place (length old)) (sym e) (stands_before_itself old row place le h)));
 }

@@ -81,11 +81,11 @@ pub record AreRows (octets links start : List ℕ) (steps : List Step) : Type 0 
 abbrev pub AreRowsOf : List ℕ → SlotRows → Type 0
 AreRowsOf octets r = AreRows octets r.slots.items r.start.items r.steps.items
 
--- what was appended to the list, if anything, stood nowhere in it
-pub record AddsOnce (old new : List Step) : Type 0 where
+-- what was appended to the list, if anything, stood nowhere in it from that place on
+pub record AddsOnce (from : ℕ) (old new : List Step) : Type 0 where
   pub row : List Step
   pub grown : new ≡ old ++ row
-  pub once : 0 < length row → (place : ℕ) → place + length row ≤ length old → Stands old place row → ⊥
+  pub once : 0 < length row → (place : ℕ) → from ≤ place → place + length row ≤ length old → Stands old place row → ⊥
 
 -- the list goes on after another
 pub record Extends (old new : List Step) : Type 0 where

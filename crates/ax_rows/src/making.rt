@@ -100,16 +100,18 @@ fn push_row(
     Ok(())
 }
 
-/// Appends the row, where these slots have one and it doesn't stand there yet. Ok is the number of its first step, or `NO_ROW`.
+/// Appends the row, where these slots have one and it doesn't stand there yet, at step `from` or later. Ok is the number of its first
+/// step, or `NO_ROW`.
 fn push_row_if_any(
     octets: &[u32],
     slots: &[u32],
     marks: u8,
+    from: usize,
     steps: &mut Vec<Step>,
 ) -> Result<u32, AllocError>
     requires links { AllByRecursion (λ link. link ≤ length octets.now) slots.now }
     ensures row { IfOk result (λ first. IsRowIfAny octets.now slots.now (seven marks) steps.new.items first) }
-    ensures once { OnOk result (AddsOnce steps.old.items steps.new.items) }
+    ensures once { OnOk result (AddsOnce from steps.old.items steps.new.items) }
     ensures kept { Extends steps.old.items steps.new.items }
 {
     if !have_row(octets, slots, marks) {
@@ -120,7 +122,7 @@ fn push_row_if_any(
         return Err(AllocError);
     }
     push_row(octets, slots, marks, steps)?;
-    if let Some(place) = earlier_place(steps.as_slice(), first) {
+    if let Some(place) = earlier_place(steps.as_slice(), from, first) {
         steps.truncate(first);
         return Ok(place as u32);
     }
@@ -140,7 +142,8 @@ fn slots_from(slots: &[u32], index: u32) -> &[u32]
     }
 }
 
-/// Appends the rows of at most 126 slots, and where they begin: by presence octet, and by the value of its marks.
+/// Appends the rows of at most 126 slots, and where they begin: by presence octet, and by the value of its marks. Equal rows of a
+/// presence octet stand there once. Those of two presence octets lead over different slots, so only rows that end at once could be equal.
 pub(crate) fn make_rows(
     octets: &[u32],
     slots: &[u32],
@@ -153,11 +156,16 @@ pub(crate) fn make_rows(
     ensures { OnOk result (AreRows octets.now slots.now start.new.items steps.new.items) }
 {
     let count = (slots.len() as u32 + 6) / 7;
+    let mut from = 0;
     for place in 0..128 * count {
+        if place % 128 == 0 {
+            from = steps.len();
+        }
         let first = push_row_if_any(
             octets,
             slots_from(slots, place / 128),
             (place % 128) as u8,
+            from,
             steps,
         )?;
         start.push(first)?;

@@ -24,13 +24,13 @@ fn stands_before(steps: &[Step], place: usize, first: usize) -> bool
     true
 }
 
-/// Where the last steps, those from `first` on, stand earlier.
-pub(crate) fn earlier_place(steps: &[Step], first: usize) -> Option<usize>
+/// Where the last steps, those from `first` on, stand earlier, at `from` or later.
+pub(crate) fn earlier_place(steps: &[Step], from: usize, first: usize) -> Option<usize>
     requires { first ≤ length steps.now }
     ensures some { IfSome result (λ place. StandsBefore steps.now place first) }
-    ensures none { IfNone result ((place : ℕ) → place < first → StandsBefore steps.now place first → ⊥) }
+    ensures none { IfNone result ((place : ℕ) → from ≤ place → place < first → StandsBefore steps.now place first → ⊥) }
 {
-    for place in 0..first {
+    for place in from..first {
         if stands_before(steps, place, first) {
             return Some(place);
         }

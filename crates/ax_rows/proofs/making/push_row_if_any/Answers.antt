@@ -13,9 +13,9 @@ returns-in-Some-clause-row c =
     (let e : c.len-first.result ≡ length c.args.steps.now.items = grind (arith, common_steps, c.len-first.ensures) in e) (omega (arith, c.if-first.false)) (subst (λ xs. StandsBefore xs c.in-Some.place c.len-first.result) c.as_slice.ensures.value c.in-Some.ensures.some) c.truncate.ensures.items
 
 pub returns-clause-once : goal.returns-clause-once
-returns-clause-once c = row_added c.args.steps.now.items c.push_row.new.steps.items (row_of c.args.octets.now c.args.slots.now (seven c.args.marks) 0) c.len-first.result c.in_ok-push_row.ensures.row
+returns-clause-once c = row_added c.args.from c.args.steps.now.items c.push_row.new.steps.items (row_of c.args.octets.now c.args.slots.now (seven c.args.marks) 0) c.len-first.result c.in_ok-push_row.ensures.row
     (let e : c.len-first.result ≡ length c.args.steps.now.items = grind (arith, common_steps, c.len-first.ensures) in e)
-    (λ place lt h. c.in_default.ensures.none place lt (subst (λ xs. StandsBefore xs place c.len-first.result) (sym c.as_slice.ensures.value) h))
+    (λ place after lt h. c.in_default.ensures.none place after lt (subst (λ xs. StandsBefore xs place c.len-first.result) (sym c.as_slice.ensures.value) h))
 
 pub returns-clause-row : goal.returns-clause-row
 returns-clause-row c =

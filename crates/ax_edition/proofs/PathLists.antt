@@ -4,7 +4,7 @@ use Rattle.std.proofs.lemmas.List.{drop_all}
 use Rattle.std.specs.Borrow.{Bor}
 use Rattle.ax_edition.specs.Relating.{target_below, lead, LeadsBelow, parts_with, related_here, related_part, related_parts, related_kind, related_slots, related_slot}
 use Rattle.ax_edition.specs.SlotItems.{item_slot, items_tree}
-use Rattle.ax_edition.specs.declared.relating.Level.{Level}
+use Rattle.ax_edition.specs.declared.level.Level.{Level}
 use Rattle.ax_relation.specs.declared.relation.RelationPath.{RelationPath}
 use Rattle.ax_format.proofs.Namings.{from_place}
 use Rattle.ax_format.specs.Plain.{part_tree, slot_tree, slots_tree}

@@ -10,7 +10,7 @@ use Rattle.ax_edition.specs.Relating.{target_below, lead, LeadsBelow, related_sl
 use Rattle.ax_relation.specs.Paths.{relation_paths}
 use Rattle.ax_edition.specs.declared.index.Index.{Index}
 use Rattle.ax_relation.specs.declared.known.Known.{Known}
-use Rattle.ax_edition.specs.declared.relating.Level.{Level}
+use Rattle.ax_edition.specs.declared.level.Level.{Level}
 use Rattle.ax_relation.specs.declared.relation.RelationPath.{RelationPath}
 use Rattle.ax_relation.proofs.DistinctNames.{record_distinct}
 use Rattle.ax_format.specs.OfCode.{HasNoFlaw}

@@ -5,9 +5,9 @@ use Rattle.ax_edition.specs.Index.{found, slot_of}
 use Rattle.ax_relation.specs.Below.{slot_below}
 use Rattle.ax_edition.specs.declared.index.NamedSlot.{NamedSlot}
 use Rattle.ax_edition.specs.declared.relating.Keys.{Keys}
-use Rattle.ax_edition.specs.declared.relating.Level.{Level}
-use Rattle.ax_edition.specs.declared.relating.Target.{Target}
-use Rattle.ax_edition.specs.declared.relating.Way.{Way}
+use Rattle.ax_edition.specs.declared.level.Level.{Level}
+use Rattle.ax_edition.specs.declared.level.Target.{Target}
+use Rattle.ax_edition.specs.declared.way.Way.{Way}
 use Rattle.ax_relation.specs.declared.relation.RelationPath.{RelationPath}
 use Rattle.ax_format.specs.Paths.{at, three_digits}
 use Rattle.ax_format.specs.Named.{with_part}

@@ -4,12 +4,14 @@
 
 mod index;
 mod known;
+mod level;
 mod moves;
 mod numbers;
 mod record_items;
 mod relating;
 mod relation;
 mod sameness;
+mod way;
 
 pub use ax_relation::{Move, Moves, Relation, RelationPath, RelationPaths};
 pub use index::{Index, NamedSlot, index_below, index_items};

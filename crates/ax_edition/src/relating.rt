@@ -1,144 +1,23 @@
 //! The keys of the old edition, with their places in both.
 ghost use Rattle.std.specs.Prelude.{◌≡◌, ◌++◌, ◌∷◌, [], None, Some, IfOk, OnOk, map};
-ghost use Rattle.ax_format.specs.Paths.{at};
-ghost use Rattle.ax_format.specs.Placed.{place_from};
 ghost use Rattle.ax_format.specs.Plain.{kind_tree, part_tree, slot_tree, slots_tree};
-ghost use Rattle.ax_format.specs.Tree.{compound};
-ghost use Rattle.ax_edition.specs.Relating.{target_there, below_target, lead, LeadsBelow, shared_place, parts_with, part_place, related_here, related_part, related_slots, keys_of_kind, keys_of_named, keys_of_parts, keys_of_slot, keys_of_slots, AddsPaths};
+ghost use Rattle.ax_edition.specs.Relating.{target_there, below_target, lead, shared_place, parts_with, part_place, related_here, related_part, related_slots, keys_of_kind, keys_of_named, keys_of_parts, keys_of_slot, keys_of_slots, AddsPaths};
 ghost use Rattle.ax_edition.specs.SlotItems.{item_slot, items_tree};
 
-use crate::index::{Index, NamedSlot, index_below, index_items};
+use crate::index::NamedSlot;
+use crate::level::{Level, Target};
 use crate::record_items::SlotItems;
 use crate::sameness::{is_shared, shared_parts};
-use ax_format::{Item, Kind, Name, Parts, Place, Slot, Slots, Steps, Text, at_name, at_part};
+use crate::way::{Way, place_of};
+use ax_format::{Item, Kind, Parts, Place, Slot, Slots, Steps, Text, at_part};
 use ax_relation::{RelationPath, RelationPaths};
 use std::alloc::{AllocError, Global};
-
-/// What stands at a path of the new edition: the slot numbers on the way to it, the first of which is an FRN, and its kind.
-#[derive(Drop)]
-struct Target<'k> {
-    numbers: Steps,
-    kind: &'k Kind,
-}
-
-/// The way to a path of the old edition: its text, and the slot numbers on it, the first of which is an FRN.
-#[derive(Drop)]
-struct Way {
-    text: Text,
-    numbers: Steps,
-}
 
 /// The keys of the old edition that were come to, in order.
 #[derive(Drop)]
 struct Keys {
     alloc: Global,
     paths: RelationPaths,
-}
-
-/// What stands below a path of the new edition, by name.
-#[derive(Drop)]
-pub(crate) struct Level<'k> {
-    numbers: Steps,
-    index: Index<'k>,
-}
-
-/// Appends a number. A list of more than 2^32 - 1 numbers is a want of memory.
-fn push_number(numbers: &mut Steps, number: u32) -> Result<(), AllocError>
-    ensures { OnOk result (numbers.new ≡ numbers.old ++ number ∷ []) }
-{
-    if numbers.count() == u32::MAX {
-        return Err(AllocError);
-    }
-    numbers.push(number)
-}
-
-/// The numbers and one more.
-fn with_number(alloc: Global, numbers: &Steps, number: u32) -> Result<Steps, AllocError>
-    ensures { IfOk result (λ made. made ≡ numbers.now ++ number ∷ []) }
-{
-    let mut made = numbers.copy(alloc)?;
-    push_number(&mut made, number)?;
-    Ok(made)
-}
-
-fn steps_of(alloc: Global, numbers: &[u32]) -> Result<Steps, AllocError>
-    ensures { IfOk result (λ made. made ≡ numbers.now) }
-{
-    let mut made = Steps::new(alloc);
-    for number in numbers {
-        push_number(&mut made, *number)?;
-    }
-    Ok(made)
-}
-
-/// The place of slot numbers.
-fn place_of(alloc: Global, numbers: &Steps) -> Result<Place, AllocError>
-    ensures { IfOk result (λ made. made ≡ place_from numbers.now) }
-{
-    match numbers.as_slice().split_first() {
-        None => Ok(Place {
-            frn: 0,
-            steps: Steps::new(alloc),
-        }),
-        Some((frn, steps)) => Ok(Place {
-            frn: *frn,
-            steps: steps_of(alloc, steps)?,
-        }),
-    }
-}
-
-impl Way {
-    /// The way on to the slot of that name and number.
-    fn onto(&self, alloc: Global, name: &Name, number: u32) -> Result<Way, AllocError>
-        ensures text { IfOk result (λ way. way.text ≡ at self.now.text name.now) }
-        ensures numbers { IfOk result (λ way. way.numbers ≡ self.now.numbers ++ number ∷ []) }
-    {
-        Ok(Way {
-            text: at_name(alloc, &self.text, name)?,
-            numbers: with_number(alloc, &self.numbers, number)?,
-        })
-    }
-}
-
-impl<'k> Level<'k> {
-    /// What stands below a target. Below none there is nothing.
-    fn below(alloc: Global, target: &Option<Target<'k>>) -> Result<Level<'k>, AllocError>
-        ensures { IfOk result (λ level. LeadsBelow (target_there target.now) level) }
-    {
-        match target {
-            None => Ok(Level {
-                numbers: Steps::new(alloc),
-                index: index_below(alloc, &None)?,
-            }),
-            Some(target) => Ok(Level {
-                numbers: target.numbers.copy(alloc)?,
-                index: index_below(alloc, &Some(target.kind))?,
-            }),
-        }
-    }
-
-    /// The items of a record.
-    pub(crate) fn of_record(alloc: Global, items: &SlotItems<'k>) -> Result<Level<'k>, AllocError>
-        ensures { IfOk result (λ level. LeadsBelow (Some ([], compound (items_tree items.now))) level) }
-    {
-        Ok(Level {
-            numbers: Steps::new(alloc),
-            index: index_items(alloc, items)?,
-        })
-    }
-
-    /// What stands at a name.
-    fn find(&self, alloc: Global, name: &Name) -> Result<Option<Target<'k>>, AllocError>
-        ensures { IfOk result (λ made. target_there made ≡ lead self.now name.now) }
-    {
-        match self.index.find(name) {
-            None => Ok(None),
-            Some((number, kind)) => Ok(Some(Target {
-                numbers: with_number(alloc, &self.numbers, number)?,
-                kind,
-            })),
-        }
-    }
 }
 
 /// The place of the target, if the kind shares with it.

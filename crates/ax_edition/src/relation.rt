@@ -12,9 +12,10 @@ ghost use Rattle.ax_relation.specs.Relates.{Relates};
 
 use crate::index::index_items;
 use crate::known::know_items;
+use crate::level::Level;
 use crate::moves::move_items;
 use crate::record_items::{SlotItems, slot_items};
-use crate::relating::{Level, relate_items};
+use crate::relating::relate_items;
 use ax_check::Accepted;
 use ax_format::{Spec, of_category};
 use ax_relation::{Known, Moves, Relation, RelationPaths};

@@ -1,5 +1,5 @@
 use Rattle.std.proofs.Common.{◌≡◌, take}
-use Rattle.ax_edition.proofs.relating.steps_of.Given as goal
+use Rattle.ax_edition.proofs.way.steps_of.Given as goal
 
 abbrev pub invariant-loop-number : goal.invariant-loop-number
 invariant-loop-number l = l.made ≡ take l.number-index l.numbers

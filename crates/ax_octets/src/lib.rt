@@ -6,7 +6,9 @@ mod literal;
 mod octets;
 mod path;
 mod place;
+mod room;
 
 pub use literal::Literal;
 pub use octets::OctetBuffer;
 pub use path::LinePath;
+pub use room::make_room;

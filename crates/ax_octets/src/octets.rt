@@ -5,11 +5,9 @@ use crate::digits::place_decimal;
 use crate::literal::Literal;
 use crate::path::LinePath;
 use crate::place::{place_octet, place_some, place_text};
+use crate::room::{lengthen, make_room};
 use std::alloc::{AllocError, Global};
 use std::marker::Model;
-
-/// The least room that is made at once.
-const LEAST_ROOM: usize = 256;
 
 /// Octets that others are appended to. Contracts see those so far. The memory after them is set ahead, so that a piece is
 /// stored with one test; it is kept when they are taken away.
@@ -321,34 +319,4 @@ fn four_fit(room: usize, a: usize, b: usize, c: usize, d: usize) -> bool
     ensures { IsTrue result ↔ a + b + c + d ≤ room }
 {
     a <= room && three_fit(room - a, b, c, d)
-}
-
-/// Sees to room for `more` octets after the first `filled`, which stay.
-#[inline(always)]
-fn make_room(area: &mut Vec<u8>, filled: usize, more: usize) -> Result<(), AllocError>
-    requires { filled ≤ length area.old.items }
-    ensures enough { OnOk result (filled + more ≤ length area.new.items) }
-    ensures stays { take filled area.new.items ≡ take filled area.old.items }
-    ensures within { filled ≤ length area.new.items }
-{
-    if area.len() - filled >= more {
-        return Ok(());
-    }
-    lengthen(area, more)
-}
-
-/// Makes room for `more` octets, and for as many again as there were.
-#[cold]
-#[inline(never)]
-fn lengthen(area: &mut Vec<u8>, more: usize) -> Result<(), AllocError>
-    ensures longer { OnOk result (length area.old.items + more ≤ length area.new.items) }
-    ensures stays { take (length area.old.items) area.new.items ≡ area.old.items }
-    ensures within { length area.old.items ≤ length area.new.items }
-{
-    let length = area.len();
-    let more = more.max(length).max(LEAST_ROOM);
-    if more > usize::MAX - length {
-        return Err(AllocError);
-    }
-    area.resize(length + more, 0)
 }

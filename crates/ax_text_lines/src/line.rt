@@ -9,10 +9,11 @@ ghost use Rattle.ax_text_lines.specs.Templates.{TemplateInBounds, printed, templ
 ghost use Rattle.ax_tokens.specs.Octets.{line_feed};
 
 use crate::bit_run::BitRun;
-use crate::room::{make_room, put_name, put_number, put_octets};
+use crate::room::{put_name, put_number, put_octets};
 use crate::step_texts::{put_template, template_room};
 use crate::templates::TemplateSteps;
 use ax_format::{Name, category_digits};
+use ax_octets::make_room;
 use itoa::Buffer;
 use std::alloc::{AllocError, Global};
 use std::marker::Model;

@@ -1,46 +1,11 @@
 //! Octets put into room that is there, each run at its place.
-ghost use Rattle.std.specs.Prelude.{◌≡◌, [], ◌∷◌, ◌++◌, ◌+◌, ◌-◌, ◌<◌, ◌≤◌, length, take, drop, decimal, OnOk};
+ghost use Rattle.std.specs.Prelude.{◌≡◌, [], ◌∷◌, ◌++◌, ◌+◌, ◌-◌, ◌<◌, ◌≤◌, length, take, drop, decimal};
 ghost use Rattle.ax_text_lines.specs.Prints.{three_last};
 
 use crate::three_digits::THREE_DIGITS;
 use ax_format::Name;
 use itoa::Buffer;
-use std::alloc::AllocError;
 use std::simd::Simd;
-
-/// The octets that room grows by, at least.
-const LEAST: usize = 1024;
-
-/// Sees to room for more than `more` octets after the first `used`, which stay.
-#[inline(always)]
-pub(crate) fn make_room(room: &mut Vec<u8>, used: usize, more: usize) -> Result<(), AllocError>
-    requires { used ≤ length room.old.items }
-    ensures enough { OnOk result (used + more < length room.new.items) }
-    ensures stays { take used room.new.items ≡ take used room.old.items }
-    ensures within { used ≤ length room.new.items }
-{
-    if room.len() - used > more {
-        return Ok(());
-    }
-    lengthen(room, more)
-}
-
-/// Makes the room longer by more than `more` octets, and at least to its double.
-#[cold]
-#[inline(never)]
-fn lengthen(room: &mut Vec<u8>, more: usize) -> Result<(), AllocError>
-    ensures longer { OnOk result (length room.old.items + more < length room.new.items) }
-    ensures stays { take (length room.old.items) room.new.items ≡ room.old.items }
-    ensures within { length room.old.items ≤ length room.new.items }
-{
-    let Some(least) = more.checked_add(LEAST) else {
-        return Err(AllocError);
-    };
-    let Some(wanted) = room.len().checked_add(least.max(room.len())) else {
-        return Err(AllocError);
-    };
-    room.resize(wanted, 0)
-}
 
 /// Puts an octet.
 #[inline(always)]

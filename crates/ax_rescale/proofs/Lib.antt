@@ -2,7 +2,7 @@ pub mod AlikeKinds
 pub mod AlikeLists
 pub mod BesideNames
 pub mod BesideSteps
-pub mod ByWays
+pub mod ByMappings
 pub mod ConversionNamed
 pub mod ConversionOnce
 pub mod ConversionShape
@@ -12,13 +12,14 @@ pub mod ConvertedLists
 pub mod ConvertedOnce
 pub mod ConvertedShape
 pub mod Converters
-pub mod ConvertingWays
+pub mod ConvertingMappings
 pub mod CountedKinds
 pub mod Divisors
 pub mod EachSteps
 pub mod EntrySteps
 pub mod FrontSteps
 pub mod GroupSteps
+pub mod MappingLists
 pub mod MissedKeys
 pub mod NothingConverted
 pub mod Once
@@ -31,5 +32,4 @@ pub mod ScaledKinds
 pub mod ValueFunction
 pub mod WatchLists
 pub mod WatchSteps
-pub mod WayLists
 pub mod Weights

@@ -18,50 +18,50 @@ use Rattle.ax_rescale.specs.Alike.{is_alike}
 use Rattle.ax_rescale.specs.Conversion.{KindPair, alike_pair, convertible, converted_entry, is_missed, Missed}
 use Rattle.ax_rescale.specs.ConvertedRecord.{slot_gets, passes, passing_entries, converted_record}
 use Rattle.ax_rescale.specs.ConvertedValue.{converted_value}
-use Rattle.ax_rescale.specs.Converts.{converting_of, converting_slots, old_slot, some_converts, stands_in, way_converts}
-use Rattle.ax_rescale.specs.Ways.{WayTree, way_from, no_ways, ways_from, way_between, way_where, ways_below, ways_of}
+use Rattle.ax_rescale.specs.Converts.{converting_of, converting_slots, mapping_converts, old_slot, some_converts, stands_in}
+use Rattle.ax_rescale.specs.Mappings.{MappingTree, mapping_from, no_mappings, mappings_from, mapping_between, mapping_where, mappings_below, mappings_of}
 
--- ---- ways by which nothing is converted
+-- ---- mappings by which nothing is converted
 
-abbrev None_of : List WayTree → Type 0
-None_of ws = some_converts (ways_from ws) ≡ false
+abbrev None_of : List MappingTree → Type 0
+None_of ws = some_converts (mappings_from ws) ≡ false
 
-none_before : (xs ys : List WayTree) → None_of (xs ++ ys) → None_of xs
+none_before : (xs ys : List MappingTree) → None_of (xs ++ ys) → None_of xs
 none_before [] ys h = refl
 none_before (x ∷ xs) ys h =
-    let both = neither (way_converts x) (some_converts (ways_from (xs ++ ys))) h in
+    let both = neither (mapping_converts x) (some_converts (mappings_from (xs ++ ys))) h in
     (λ i. both.0 i || none_before xs ys both.1 i)
 
-none_after : (xs ys : List WayTree) → None_of (xs ++ ys) → None_of ys
+none_after : (xs ys : List MappingTree) → None_of (xs ++ ys) → None_of ys
 none_after [] ys h = h
-none_after (x ∷ xs) ys h = none_after xs ys (neither (way_converts x) (some_converts (ways_from (xs ++ ys))) h).1
+none_after (x ∷ xs) ys h = none_after xs ys (neither (mapping_converts x) (some_converts (mappings_from (xs ++ ys))) h).1
 
 -- or in whose old slots nothing stands
-abbrev Quiet : EntriesTree → List WayTree → Type 0
+abbrev Quiet : EntriesTree → List MappingTree → Type 0
 Quiet es ws = stands_in (converting_of ws) es ≡ false
 
-quiet_first : (es : EntriesTree) (w : WayTree) (ws : List WayTree) (b : Bool) → stands_in (cond b (old_slot w ∷ converting_of ws) (converting_of ws)) es ≡ false → (stands_in (cond b (old_slot w ∷ []) []) es ≡ false) × Quiet es ws
+quiet_first : (es : EntriesTree) (w : MappingTree) (ws : List MappingTree) (b : Bool) → stands_in (cond b (old_slot w ∷ converting_of ws) (converting_of ws)) es ≡ false → (stands_in (cond b (old_slot w ∷ []) []) es ≡ false) × Quiet es ws
 quiet_first es w ws true h = let both = neither (is_some (slot_value (old_slot w) es)) (stands_in (converting_of ws) es) h in ((λ i. both.0 i || false), both.1)
 quiet_first es w ws false h = (refl, h)
 
-quiet_and : (es : EntriesTree) (w : WayTree) (ws : List WayTree) (b : Bool) → stands_in (cond b (old_slot w ∷ []) []) es ≡ false → Quiet es ws → stands_in (cond b (old_slot w ∷ converting_of ws) (converting_of ws)) es ≡ false
+quiet_and : (es : EntriesTree) (w : MappingTree) (ws : List MappingTree) (b : Bool) → stands_in (cond b (old_slot w ∷ []) []) es ≡ false → Quiet es ws → stands_in (cond b (old_slot w ∷ converting_of ws) (converting_of ws)) es ≡ false
 quiet_and es w ws true h k = let e = (neither (is_some (slot_value (old_slot w) es)) false h).0 in (λ i. e i || k i)
 quiet_and es w ws false h k = k
 
-quiet_before : (es : EntriesTree) (xs ys : List WayTree) → Quiet es (xs ++ ys) → Quiet es xs
+quiet_before : (es : EntriesTree) (xs ys : List MappingTree) → Quiet es (xs ++ ys) → Quiet es xs
 quiet_before es [] ys h = refl
 quiet_before es (x ∷ xs) ys h =
-    let both = quiet_first es x (xs ++ ys) (way_converts x) h in quiet_and es x xs (way_converts x) both.0 (quiet_before es xs ys both.1)
+    let both = quiet_first es x (xs ++ ys) (mapping_converts x) h in quiet_and es x xs (mapping_converts x) both.0 (quiet_before es xs ys both.1)
 
-quiet_after : (es : EntriesTree) (xs ys : List WayTree) → Quiet es (xs ++ ys) → Quiet es ys
+quiet_after : (es : EntriesTree) (xs ys : List MappingTree) → Quiet es (xs ++ ys) → Quiet es ys
 quiet_after es [] ys h = h
-quiet_after es (x ∷ xs) ys h = quiet_after es xs ys (quiet_first es x (xs ++ ys) (way_converts x) h).1
+quiet_after es (x ∷ xs) ys h = quiet_after es xs ys (quiet_first es x (xs ++ ys) (mapping_converts x) h).1
 
 -- ---- the kinds of an old slot and a new one
 
--- they are shared, and nothing is converted by a way below; or they aren't alike
+-- they are shared, and nothing is converted by a mapping below; or they aren't alike
 data PairOf (k l : KindTree) : Type 0 where
-  shared : is_shared_kind k l ≡ true → None_of (ways_below l k) → PairOf k l
+  shared : is_shared_kind k l ≡ true → None_of (mappings_below l k) → PairOf k l
   apart : is_shared_kind k l ≡ false → is_alike k l ≡ false → PairOf k l
 
 -- so it is, or nothing stands in the slot
@@ -70,14 +70,14 @@ data Still (es : EntriesTree) (s : ℕ) (k l : KindTree) : Type 0 where
   paired : PairOf k l → Still es s k l
 
 module _ (s t : ℕ) (k l : KindTree) where
-  abbrev pair_ways : Bool → Bool → List WayTree
-  pair_ways b c = cond b (way_from s t None (common_parts k l) (ways_from (ways_below l k)) ∷ []) (cond c (way_from s t (Some (record { old = k; new = l })) 0 no_ways ∷ []) [])
+  abbrev pair_mappings : Bool → Bool → List MappingTree
+  pair_mappings b c = cond b (mapping_from s t None (common_parts k l) (mappings_from (mappings_below l k)) ∷ []) (cond c (mapping_from s t (Some (record { old = k; new = l })) 0 no_mappings ∷ []) [])
 
-  pair_of : None_of (way_between s t k l (ways_below l k)) → PairOf k l
+  pair_of : None_of (mapping_between s t k l (mappings_below l k)) → PairOf k l
   pair_of h = by (is_shared_kind k l) (is_alike k l) refl refl h
     where
-      by : (b c : Bool) → is_shared_kind k l ≡ b → is_alike k l ≡ c → None_of (pair_ways b c) → PairOf k l
-      by true c p q n = shared p (neither (some_converts (ways_from (ways_below l k))) false n).0
+      by : (b c : Bool) → is_shared_kind k l ≡ b → is_alike k l ≡ c → None_of (pair_mappings b c) → PairOf k l
+      by true c p q n = shared p (neither (some_converts (mappings_from (mappings_below l k))) false n).0
       by false true p q n = cc
       by false false p q n = apart p q
 
@@ -85,15 +85,15 @@ module _ (s t : ℕ) (k l : KindTree) where
   is_none None e = refl
   is_none (Some v) e = cc
 
-  still_of : (es : EntriesTree) → Quiet es (way_between s t k l (ways_below l k)) → Still es s k l
-  still_of es h = by (is_shared_kind k l) (is_alike k l) (some_converts (ways_from (ways_below l k))) refl refl refl h
+  still_of : (es : EntriesTree) → Quiet es (mapping_between s t k l (mappings_below l k)) → Still es s k l
+  still_of es h = by (is_shared_kind k l) (is_alike k l) (some_converts (mappings_from (mappings_below l k))) refl refl refl h
     where
-      by_below : (n : Bool) → is_shared_kind k l ≡ true → some_converts (ways_from (ways_below l k)) ≡ n → stands_in (cond n (s ∷ []) []) es ≡ false → Still es s k l
+      by_below : (n : Bool) → is_shared_kind k l ≡ true → some_converts (mappings_from (mappings_below l k)) ≡ n → stands_in (cond n (s ∷ []) []) es ≡ false → Still es s k l
       by_below true p r q = absent (is_none (slot_value s es) q)
       by_below false p r q = paired (shared p r)
 
-      by : (b c n : Bool) → is_shared_kind k l ≡ b → is_alike k l ≡ c → some_converts (ways_from (ways_below l k)) ≡ n → Quiet es (pair_ways b c) → Still es s k l
-      by true c n p e r q = by_below (some_converts (ways_from (ways_below l k))) p refl q
+      by : (b c n : Bool) → is_shared_kind k l ≡ b → is_alike k l ≡ c → some_converts (mappings_from (mappings_below l k)) ≡ n → Quiet es (pair_mappings b c) → Still es s k l
+      by true c n p e r q = by_below (some_converts (mappings_from (mappings_below l k))) p refl q
       by false true n p e r q = absent (is_none (slot_value s es) q)
       by false false n p e r q = paired (apart p e)
 
@@ -123,8 +123,8 @@ either : (b : Bool) → cond b no_value no_value ≡ None
 either true = refl
 either false = refl
 
-module _ (l : KindTree) (es : EntriesTree) (below : (k : KindTree) (v : ValueTree) → None_of (ways_below l k) → passes l k v ≡ moved l k v) where
-  value_got : (k : KindTree) (o : Option ValueTree) → None_of (ways_below l k) → option_and_then (λ v. Some (passes l k v)) o ≡ option_map (moved l k) o
+module _ (l : KindTree) (es : EntriesTree) (below : (k : KindTree) (v : ValueTree) → None_of (mappings_below l k) → passes l k v ≡ moved l k v) where
+  value_got : (k : KindTree) (o : Option ValueTree) → None_of (mappings_below l k) → option_and_then (λ v. Some (passes l k v)) o ≡ option_map (moved l k) o
   value_got k None h = refl
   value_got k (Some v) h = ap Some (below k v h)
 
@@ -141,68 +141,68 @@ module _ (l : KindTree) (es : EntriesTree) (below : (k : KindTree) (v : ValueTre
       ap (λ o. option_and_then (λ v. slot_gets s.1 l v (passes l s.1 v)) o) e ∙ sym (ap (λ o. cond (is_shared_kind s.1 l) (option_map (moved l s.1) o) None) e ∙ either (is_shared_kind s.1 l))
   still_got s (paired p) = slot_got s p
 
-  found_got : (t : ℕ) (o : Option (ℕ × KindTree)) → None_of (way_where t l o (ways_below l)) → option_and_then (got l es) o ≡ option_and_then (moves l es) o
+  found_got : (t : ℕ) (o : Option (ℕ × KindTree)) → None_of (mapping_where t l o (mappings_below l)) → option_and_then (got l es) o ≡ option_and_then (moves l es) o
   found_got t None h = refl
   found_got t (Some s) h = slot_got s (pair_of s.0 t s.1 l h)
 
-  found_still : (t : ℕ) (o : Option (ℕ × KindTree)) → Quiet es (way_where t l o (ways_below l)) → option_and_then (got l es) o ≡ option_and_then (moves l es) o
+  found_still : (t : ℕ) (o : Option (ℕ × KindTree)) → Quiet es (mapping_where t l o (mappings_below l)) → option_and_then (got l es) o ≡ option_and_then (moves l es) o
   found_still t None h = refl
   found_still t (Some s) h = still_got s (still_of s.0 t s.1 l es h)
 
 mutual
-  value_moves : (l k : KindTree) (v : ValueTree) → None_of (ways_below l k) → passes l k v ≡ moved l k v
+  value_moves : (l k : KindTree) (v : ValueTree) → None_of (mappings_below l k) → passes l k v ≡ moved l k v
   value_moves (compound ts) (compound ss) (marked es) h = ap marked (entries_move 1 ts ss es h)
   value_moves (extended last qs) (extended other ps) (part_values ls) h = refl
   value_moves _ _ _ h = refl
 
-  entries_move : (t : ℕ) (ts ss : SlotsTree) (es : EntriesTree) → None_of (ways_of t ts (rule_of ss)) → passing_entries t ts ss es ≡ moved_entries t ts ss es
+  entries_move : (t : ℕ) (ts ss : SlotsTree) (es : EntriesTree) → None_of (mappings_of t ts (rule_of ss)) → passing_entries t ts ss es ≡ moved_entries t ts ss es
   entries_move t no_slots ss es h = refl
   entries_move t (slot_and spare_slot ts) ss es h = entries_move (t + 1) ts ss es h
   entries_move t (slot_and (subitem name l) ts) ss es h =
-      let way = way_where t l (slot_named 1 name ss) (ways_below l) in
-      let here = found_got l es (λ k v. value_moves l k v) t (slot_named 1 name ss) (none_before way (ways_of (t + 1) ts (rule_of ss)) h) in
-      let later = entries_move (t + 1) ts ss es (none_after way (ways_of (t + 1) ts (rule_of ss)) h) in
+      let mapping = mapping_where t l (slot_named 1 name ss) (mappings_below l) in
+      let here = found_got l es (λ k v. value_moves l k v) t (slot_named 1 name ss) (none_before mapping (mappings_of (t + 1) ts (rule_of ss)) h) in
+      let later = entries_move (t + 1) ts ss es (none_after mapping (mappings_of (t + 1) ts (rule_of ss)) h) in
       (λ i. entry_where t (here i) (later i))
 
-slots_move : (t : ℕ) (ts ss : SlotsTree) (es : EntriesTree) → Quiet es (ways_of t ts (rule_of ss)) → passing_entries t ts ss es ≡ moved_entries t ts ss es
+slots_move : (t : ℕ) (ts ss : SlotsTree) (es : EntriesTree) → Quiet es (mappings_of t ts (rule_of ss)) → passing_entries t ts ss es ≡ moved_entries t ts ss es
 slots_move t no_slots ss es h = refl
 slots_move t (slot_and spare_slot ts) ss es h = slots_move (t + 1) ts ss es h
 slots_move t (slot_and (subitem name l) ts) ss es h =
-    let way = way_where t l (slot_named 1 name ss) (ways_below l) in
-    let here = found_still l es (λ k v. value_moves l k v) t (slot_named 1 name ss) (quiet_before es way (ways_of (t + 1) ts (rule_of ss)) h) in
-    let later = slots_move (t + 1) ts ss es (quiet_after es way (ways_of (t + 1) ts (rule_of ss)) h) in
+    let mapping = mapping_where t l (slot_named 1 name ss) (mappings_below l) in
+    let here = found_still l es (λ k v. value_moves l k v) t (slot_named 1 name ss) (quiet_before es mapping (mappings_of (t + 1) ts (rule_of ss)) h) in
+    let later = slots_move (t + 1) ts ss es (quiet_after es mapping (mappings_of (t + 1) ts (rule_of ss)) h) in
     (λ i. entry_where t (here i) (later i))
 
 pub record_moves : (old new : SpecTree) (es : EntriesTree) → stands_in (converting_slots old new) es ≡ false → converted_record old new es ≡ moved_record old new es
 record_moves old new es h = slots_move 1 (record_slots new) (record_slots old) es h
 
--- ---- the way to the slot of a name
+-- ---- the mapping to the slot of a name
 
-module _ (P : List WayTree → Type 0) (before : (xs ys : List WayTree) → P (xs ++ ys) → P xs) (after : (xs ys : List WayTree) → P (xs ++ ys) → P ys) where
-  slot_way : (n : ℕ) (name : List ℕ) (ts : SlotsTree) (s : ℕ × KindTree) (rule : List ℕ → Option (ℕ × KindTree)) → slot_named n name ts ≡ Some s → P (ways_of n ts rule) → P (way_where s.0 s.1 (rule name) (ways_below s.1))
-  slot_way n name no_slots s rule e h = cc
-  slot_way n name (slot_and spare_slot ts) s rule e h = slot_way (n + 1) name ts s rule e h
-  slot_way n name (slot_and (subitem own l) ts) s rule e h =
-      by (bytes_eq own name) refl e (λ f. slot_way (n + 1) name ts s rule f (after (way_where n l (rule own) (ways_below l)) (ways_of (n + 1) ts rule) h))
+module _ (P : List MappingTree → Type 0) (before : (xs ys : List MappingTree) → P (xs ++ ys) → P xs) (after : (xs ys : List MappingTree) → P (xs ++ ys) → P ys) where
+  slot_mapping : (n : ℕ) (name : List ℕ) (ts : SlotsTree) (s : ℕ × KindTree) (rule : List ℕ → Option (ℕ × KindTree)) → slot_named n name ts ≡ Some s → P (mappings_of n ts rule) → P (mapping_where s.0 s.1 (rule name) (mappings_below s.1))
+  slot_mapping n name no_slots s rule e h = cc
+  slot_mapping n name (slot_and spare_slot ts) s rule e h = slot_mapping (n + 1) name ts s rule e h
+  slot_mapping n name (slot_and (subitem own l) ts) s rule e h =
+      by (bytes_eq own name) refl e (λ f. slot_mapping (n + 1) name ts s rule f (after (mapping_where n l (rule own) (mappings_below l)) (mappings_of (n + 1) ts rule) h))
     where
-      here : P (way_where n l (rule own) (ways_below l))
-      here = before (way_where n l (rule own) (ways_below l)) (ways_of (n + 1) ts rule) h
+      here : P (mapping_where n l (rule own) (mappings_below l))
+      here = before (mapping_where n l (rule own) (mappings_below l)) (mappings_of (n + 1) ts rule) h
 
-      by : (b : Bool) → bytes_eq own name ≡ b → found_or (cond b (Some l) None) n (slot_named (n + 1) name ts) ≡ Some s → (slot_named (n + 1) name ts ≡ Some s → P (way_where s.0 s.1 (rule name) (ways_below s.1)))
-          → P (way_where s.0 s.1 (rule name) (ways_below s.1))
+      by : (b : Bool) → bytes_eq own name ≡ b → found_or (cond b (Some l) None) n (slot_named (n + 1) name ts) ≡ Some s → (slot_named (n + 1) name ts ≡ Some s → P (mapping_where s.0 s.1 (rule name) (mappings_below s.1)))
+          → P (mapping_where s.0 s.1 (rule name) (mappings_below s.1))
       by true q f later =
           let is = found_is (n, l) s f in
-          subst (λ x. P (way_where s.0 s.1 (rule x) (ways_below s.1))) (bytes_same own name q) (subst (λ (x : ℕ × KindTree). P (way_where x.0 x.1 (rule own) (ways_below x.1))) (λ i. (is.0 i, is.1 i)) here)
+          subst (λ x. P (mapping_where s.0 s.1 (rule x) (mappings_below s.1))) (bytes_same own name q) (subst (λ (x : ℕ × KindTree). P (mapping_where x.0 x.1 (rule own) (mappings_below x.1))) (λ i. (is.0 i, is.1 i)) here)
       by false q f later = later f
 
 -- the kinds to which names lead below two kinds
 module _ (name : List ℕ) (names : List (List ℕ)) (below : (k l a b : KindTree) → PairOf k l → kind_at names k ≡ Some a → kind_at names l ≡ Some b → PairOf a b) where
-  in_slots : (ss ts : SlotsTree) (a b : KindTree) → None_of (ways_of 1 ts (rule_of ss)) → (o p : Option (ℕ × KindTree)) → slot_named 1 name ss ≡ o → slot_named 1 name ts ≡ p
+  in_slots : (ss ts : SlotsTree) (a b : KindTree) → None_of (mappings_of 1 ts (rule_of ss)) → (o p : Option (ℕ × KindTree)) → slot_named 1 name ss ≡ o → slot_named 1 name ts ≡ p
       → option_and_then (λ s. kind_at names s.1) o ≡ Some a → option_and_then (λ s. kind_at names s.1) p ≡ Some b → PairOf a b
   in_slots ss ts a b h None p q r e f = cc
   in_slots ss ts a b h (Some s) None q r e f = cc
   in_slots ss ts a b h (Some s) (Some t) q r e f =
-      below s.1 t.1 a b (pair_of s.0 t.0 s.1 t.1 (subst (λ (o : Option (ℕ × KindTree)). None_of (way_where t.0 t.1 o (ways_below t.1))) q (slot_way None_of none_before none_after 1 name ts t (rule_of ss) r h))) e f
+      below s.1 t.1 a b (pair_of s.0 t.0 s.1 t.1 (subst (λ (o : Option (ℕ × KindTree)). None_of (mapping_where t.0 t.1 o (mappings_below t.1))) q (slot_mapping None_of none_before none_after 1 name ts t (rule_of ss) r h))) e f
 
 pair_below : (names : List (List ℕ)) (k l a b : KindTree) → PairOf k l → kind_at names k ≡ Some a → kind_at names l ≡ Some b → PairOf a b
 pair_below [] k l a b p e f =
@@ -261,7 +261,7 @@ module _ (old new : SpecTree) (es : EntriesTree) (quiet : stands_in (converting_
     by_slots (Some s) None q r e = no_kind (kind_at others s.1)
     by_slots (Some s) (Some t) q r e =
         by_still s t (slot_value s.0 es) refl e
-        (still_of s.0 t.0 s.1 t.1 es (subst (λ (o : Option (ℕ × KindTree)). Quiet es (way_where t.0 t.1 o (ways_below t.1))) q (slot_way (Quiet es) (quiet_before es) (quiet_after es) 1 first (record_slots new) t (rule_of (record_slots old)) r quiet)))
+        (still_of s.0 t.0 s.1 t.1 es (subst (λ (o : Option (ℕ × KindTree)). Quiet es (mapping_where t.0 t.1 o (mappings_below t.1))) q (slot_mapping (Quiet es) (quiet_before es) (quiet_after es) 1 first (record_slots new) t (rule_of (record_slots old)) r quiet)))
 
   of_names : (names : List (List ℕ)) (entry : NamedEntry) → Named old es (record { names = names; part = None }) ≡ Some entry → convertible old new (record { names = names; part = None }) ≡ None
   of_names [] entry e = refl

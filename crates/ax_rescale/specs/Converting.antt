@@ -7,16 +7,16 @@ use Rattle.ax_format.specs.declared.spec.Spec.{Spec}
 use Rattle.ax_relation.specs.Relates.{Relates}
 use Rattle.ax_rescale.specs.Conversion.{BlockConversion}
 use Rattle.ax_rescale.specs.ConvertedRecord.{converted_record}
+use Rattle.ax_rescale.specs.Mappings.{record_mappings}
 use Rattle.ax_rescale.specs.Misses.{block_misses}
-use Rattle.ax_rescale.specs.PlainWays.{way_tree}
+use Rattle.ax_rescale.specs.PlainMappings.{mapping_tree}
 use Rattle.ax_rescale.specs.Watching.{AreWatched}
-use Rattle.ax_rescale.specs.Ways.{record_ways}
 use Rattle.ax_rescale.specs.declared.converter.Converter.{Converter}
 use Rattle.ax_rescale.specs.declared.miss.Miss.{Miss}
 
 pub record IsConverter (c : Converter) : Type 0 where
   pub related : Relates c.old.now c.new.now c.relation.now
-  pub ways : map way_tree c.ways ≡ record_ways (spec_tree c.old.now) (spec_tree c.new.now)
+  pub mappings : map mapping_tree c.mappings ≡ record_mappings (spec_tree c.old.now) (spec_tree c.new.now)
   pub watched : AreWatched (spec_tree c.old.now) (spec_tree c.new.now) c.watches c.relation.now.paths
   pub all : length c.watches ≡ length c.relation.now.paths
 

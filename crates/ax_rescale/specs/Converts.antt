@@ -3,31 +3,31 @@ use Rattle.std.specs.Prelude.{ℕ, Bool, false, ◌||◌, is_some, if◌then◌e
 use Rattle.ax_format.specs.At.{slot_value}
 use Rattle.ax_format.specs.Specification.{SpecTree}
 use Rattle.ax_format.specs.Tree.{EntriesTree}
-use Rattle.ax_rescale.specs.Ways.{WayTree, way_from, WaysTree, no_ways, way_and, record_ways}
+use Rattle.ax_rescale.specs.Mappings.{MappingTree, mapping_from, MappingsTree, no_mappings, mapping_and, record_mappings}
 
--- ---- ways
+-- ---- mappings
 
 abbrev mutual
-  -- something is converted by the way, or by one below it
-  pub way_converts : WayTree → Bool
-  way_converts (way_from s t p c below) = is_some p || some_converts below
+  -- something is converted by the mapping, or by one below it
+  pub mapping_converts : MappingTree → Bool
+  mapping_converts (mapping_from s t p c below) = is_some p || some_converts below
 
-  -- by one of these ways
-  pub some_converts : WaysTree → Bool
-  some_converts no_ways = false
-  some_converts (way_and w ws) = way_converts w || some_converts ws
+  -- by one of these mappings
+  pub some_converts : MappingsTree → Bool
+  some_converts no_mappings = false
+  some_converts (mapping_and w ws) = mapping_converts w || some_converts ws
 
-abbrev pub old_slot : WayTree → ℕ
-old_slot (way_from s t p c below) = s
+abbrev pub old_slot : MappingTree → ℕ
+old_slot (mapping_from s t p c below) = s
 
 -- the old slots of those by which something is converted, in their order
-abbrev pub converting_of : List WayTree → List ℕ
+abbrev pub converting_of : List MappingTree → List ℕ
 converting_of [] = []
-converting_of (w ∷ ws) = if way_converts w then old_slot w ∷ converting_of ws else converting_of ws
+converting_of (w ∷ ws) = if mapping_converts w then old_slot w ∷ converting_of ws else converting_of ws
 
 -- the slots of the old edition from which something is converted to the new one; none where no path of both is converted
 abbrev pub converting_slots : SpecTree → SpecTree → List ℕ
-converting_slots old new = converting_of (record_ways old new)
+converting_slots old new = converting_of (record_mappings old new)
 
 -- ---- records
 

@@ -8,11 +8,12 @@ pub mod ConvertedValue
 pub mod Converting
 pub mod Converts
 pub mod Makes
+pub mod Mappings
 pub mod MemberShapes
 pub mod Missed
 pub mod Misses
 pub mod OverItems
-pub mod PlainWays
+pub mod PlainMappings
 pub mod Ready
 pub mod Rescaled
 pub mod Scales
@@ -21,4 +22,3 @@ pub mod SlotSteps
 pub mod Tells
 pub mod Under
 pub mod Watching
-pub mod Ways

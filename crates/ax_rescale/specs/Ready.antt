@@ -1,11 +1,11 @@
--- Values at the slots of ways have the kinds from which they are converted, and these have scales.
+-- Values at the slots of mappings have the kinds from which they are converted, and these have scales.
 use Rattle.std.specs.Prelude.{Option, Some, None, IfSome}
 use Rattle.ax_format.specs.At.{slot_value}
 use Rattle.ax_format.specs.Shape.{Shape}
 use Rattle.ax_format.specs.Tree.{ValueTree, marked, EntriesTree}
 use Rattle.ax_rescale.specs.Conversion.{KindPair}
+use Rattle.ax_rescale.specs.Mappings.{MappingTree, mapping_from, MappingsTree, no_mappings, mapping_and}
 use Rattle.ax_rescale.specs.Scales.{Scaled}
-use Rattle.ax_rescale.specs.Ways.{WayTree, way_from, WaysTree, no_ways, way_and}
 
 pub record PairReady (pair : KindPair) (v : ValueTree) : Type 0 where
   pub old_scaled : Scaled pair.old
@@ -20,12 +20,12 @@ abbrev pub ReadyWhere : Option KindPair → (EntriesTree → Type 0) → ValueTr
 ReadyWhere None Ready v = EntriesReady Ready v
 ReadyWhere (Some pair) Ready v = PairReady pair v
 
-abbrev pub WaysReady : WaysTree → EntriesTree → Type 0
-WaysReady no_ways es = Unit {0}
-WaysReady (way_and (way_from s t p c below) ws) es = IfSome (slot_value s es) (ReadyWhere p (WaysReady below)) × WaysReady ws es
+abbrev pub MappingsReady : MappingsTree → EntriesTree → Type 0
+MappingsReady no_mappings es = Unit {0}
+MappingsReady (mapping_and (mapping_from s t p c below) ws) es = IfSome (slot_value s es) (ReadyWhere p (MappingsReady below)) × MappingsReady ws es
 
-abbrev pub ValueReady : WayTree → ValueTree → Type 0
-ValueReady (way_from s t p c below) v = ReadyWhere p (WaysReady below) v
+abbrev pub ValueReady : MappingTree → ValueTree → Type 0
+ValueReady (mapping_from s t p c below) v = ReadyWhere p (MappingsReady below) v
 
-abbrev pub WayReady : WayTree → EntriesTree → Type 0
-WayReady (way_from s t p c below) es = IfSome (slot_value s es) (ReadyWhere p (WaysReady below))
+abbrev pub MappingReady : MappingTree → EntriesTree → Type 0
+MappingReady (mapping_from s t p c below) es = IfSome (slot_value s es) (ReadyWhere p (MappingsReady below))

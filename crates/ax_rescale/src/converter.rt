@@ -6,15 +6,15 @@ ghost use Rattle.ax_format.specs.OfCode.{BlockFits};
 ghost use Rattle.ax_format.specs.Plain.{spec_tree, record_tree, records_tree};
 ghost use Rattle.ax_relation.specs.Relates.{Relates};
 ghost use Rattle.ax_rescale.specs.Converting.{BlockConverted, IsConverter, converted_records, misses_of};
-ghost use Rattle.ax_rescale.specs.PlainWays.{way_tree};
+ghost use Rattle.ax_rescale.specs.Mappings.{record_mappings};
+ghost use Rattle.ax_rescale.specs.PlainMappings.{mapping_tree};
 ghost use Rattle.ax_rescale.specs.Under.{all_misses_under, conversion_misses, converted_under};
 ghost use Rattle.ax_rescale.specs.Watching.{AreWatched};
-ghost use Rattle.ax_rescale.specs.Ways.{record_ways};
 
+use crate::mappings::{SlotMappings, mappings_of_items};
 use crate::missing::{ConvertedRecord, Misses, miss_record};
 use crate::passing::passed_entries;
 use crate::watches::{Watches, watch_all};
-use crate::ways::{Ways, ways_of_items};
 use ax_edition::{Relation, index_items, slot_items};
 use ax_format::{Block, Record, Records, Spec};
 use std::alloc::{AllocError, Global};
@@ -34,23 +34,23 @@ pub struct Converter<'x> {
     /// The edition that they are converted to.
     pub(crate) new: &'x Spec,
     pub(crate) relation: &'x Relation,
-    pub(crate) ways: Ways<'x>,
+    pub(crate) mappings: SlotMappings<'x>,
     pub(crate) watches: Watches<'x>,
 }
 
-/// The ways from the slots of the one edition to those of the other.
-#[tactic(auto, using(crate::proofs::Converters::ways))]
-pub(crate) fn ways_between<'x>(
+/// The mappings from the slots of the one edition to those of the other.
+#[tactic(auto, using(crate::proofs::Converters::mappings))]
+pub(crate) fn mappings_between<'x>(
     alloc: Global,
     old: &'x Spec,
     new: &'x Spec,
-) -> Result<Ways<'x>, AllocError>
-    ensures { IfOk result (λ ways. map way_tree ways ≡ record_ways (spec_tree old.now) (spec_tree new.now)) }
+) -> Result<SlotMappings<'x>, AllocError>
+    ensures { IfOk result (λ mappings. map mapping_tree mappings ≡ record_mappings (spec_tree old.now) (spec_tree new.now)) }
 {
     let old_items = slot_items(alloc, old)?;
     let new_items = slot_items(alloc, new)?;
     let index = index_items(alloc, &old_items)?;
-    ways_of_items(alloc, &new_items, &index)
+    mappings_of_items(alloc, &new_items, &index)
 }
 
 /// The keys of the relation of the two, as they are looked for.
@@ -82,13 +82,13 @@ impl<'x> Converter<'x> {
         ensures old { IfOk result (λ c. c.old.now ≡ old.now) }
         ensures new { IfOk result (λ c. c.new.now ≡ new.now) }
     {
-        let ways = ways_between(alloc, old, new)?;
+        let mappings = mappings_between(alloc, old, new)?;
         let watches = watches_between(alloc, relation, old, new)?;
         Ok(Converter {
             old,
             new,
             relation,
-            ways,
+            mappings,
             watches,
         })
     }
@@ -121,7 +121,7 @@ impl<'x> Converter<'x> {
         ensures made { IfOk result (λ made. record_tree made ≡ converted_under self.now (record_tree one.now)) }
         ensures misses { OnOk result (misses.new ≡ misses.old ++ conversion_misses self.now number (record_tree one.now)) }
     {
-        let entries = passed_entries(alloc, &self.ways, &one.entries)?;
+        let entries = passed_entries(alloc, &self.mappings, &one.entries)?;
         let converted = ConvertedRecord {
             number,
             entries: &one.entries,

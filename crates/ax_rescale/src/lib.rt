@@ -9,6 +9,7 @@ mod divisor;
 mod error;
 mod fixed_values;
 mod fronts;
+mod mappings;
 mod miss;
 mod missing;
 mod number;
@@ -17,7 +18,6 @@ mod passing;
 mod splitting;
 mod values;
 mod watches;
-mod ways;
 
 pub use alike::is_alike;
 pub use converter::{ConvertedBlock, Converter, convert_tree};

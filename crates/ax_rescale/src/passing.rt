@@ -1,12 +1,12 @@
 //! Values and entries of the old edition, as they come to the new one.
 ghost use Rattle.std.specs.Prelude.{◌≡◌, ◌++◌, map, IfOk, OnOk, option_map};
 ghost use Rattle.ax_format.specs.Plain.{value_tree, entry_tree, entries_tree};
-ghost use Rattle.ax_rescale.specs.PlainWays.{pair_tree, way_tree, ways_tree};
-ghost use Rattle.ax_rescale.specs.Ready.{PairReady, ValueReady, WayReady, WaysReady};
-ghost use Rattle.ax_rescale.specs.Ways.{pair_converted, passed_by, way_entries, way_value};
+ghost use Rattle.ax_rescale.specs.Mappings.{mapping_entries, mapping_value, pair_converted, passed_by};
+ghost use Rattle.ax_rescale.specs.PlainMappings.{mapping_tree, mappings_tree, pair_tree};
+ghost use Rattle.ax_rescale.specs.Ready.{MappingReady, MappingsReady, PairReady, ValueReady};
 
+use crate::mappings::{AlikePair, SlotMapping, SlotMappings};
 use crate::values::convert_value;
-use crate::ways::{AlikePair, Way, Ways};
 use ax_format::{Entries, Entry, Value};
 use ax_relation::{first_copies, value_of};
 use std::alloc::{AllocError, Global};
@@ -19,12 +19,16 @@ fn converted(alloc: Global, pair: AlikePair<'_>, value: &Value) -> Result<Option
     convert_value(alloc, pair.old, pair.new, value)
 }
 
-/// The value as it comes to the new slot of a way: converted, if it can be; else of an extended item so many first parts, in a
+/// The value as it comes to the new slot of a mapping: converted, if it can be; else of an extended item so many first parts, in a
 /// compound what passes below, and else all of it.
 #[cycle(passing)]
-fn value_by(alloc: Global, one: &Way<'_>, value: &Value) -> Result<Option<Value>, AllocError>
-    requires { ValueReady (way_tree one.now) (value_tree value.now) }
-    ensures { IfOk result (λ made. option_map value_tree made ≡ way_value (way_tree one.now) (value_tree value.now)) }
+fn value_by(
+    alloc: Global,
+    one: &SlotMapping<'_>,
+    value: &Value,
+) -> Result<Option<Value>, AllocError>
+    requires { ValueReady (mapping_tree one.now) (value_tree value.now) }
+    ensures { IfOk result (λ made. option_map value_tree made ≡ mapping_value (mapping_tree one.now) (value_tree value.now)) }
 {
     if let Some(pair) = one.alike {
         return converted(alloc, pair, value);
@@ -37,16 +41,16 @@ fn value_by(alloc: Global, one: &Way<'_>, value: &Value) -> Result<Option<Value>
     Ok(Some(passed))
 }
 
-/// Appends the entry that a way makes, if there is one. A list of more than 2^32 - 1 entries is a want of memory.
+/// Appends the entry that a mapping makes, if there is one. A list of more than 2^32 - 1 entries is a want of memory.
 #[cycle(passing)]
 fn pass_entry(
     alloc: Global,
-    one: &Way<'_>,
+    one: &SlotMapping<'_>,
     entries: &Entries,
     made: &mut Entries,
 ) -> Result<(), AllocError>
-    requires { WayReady (way_tree one.now) (entries_tree entries.now) }
-    ensures { OnOk result (map entry_tree made.new ≡ map entry_tree made.old ++ way_entries (way_tree one.now) (entries_tree entries.now)) }
+    requires { MappingReady (mapping_tree one.now) (entries_tree entries.now) }
+    ensures { OnOk result (map entry_tree made.new ≡ map entry_tree made.old ++ mapping_entries (mapping_tree one.now) (entries_tree entries.now)) }
 {
     let Some(value) = value_of(entries, one.old) else {
         return Ok(());
@@ -64,19 +68,19 @@ fn pass_entry(
     Ok(())
 }
 
-/// The entries as they come to the new edition, in the order of the ways.
+/// The entries as they come to the new edition, in the order of the mappings.
 #[cycle(passing)]
 #[tactic(auto, using(crate::proofs::PassedEntries::entries))]
 pub(crate) fn passed_entries(
     alloc: Global,
-    ways: &Ways<'_>,
+    mappings: &SlotMappings<'_>,
     entries: &Entries,
 ) -> Result<Entries, AllocError>
-    requires { WaysReady (ways_tree ways.now) (entries_tree entries.now) }
-    ensures { IfOk result (λ made. entries_tree made ≡ passed_by (ways_tree ways.now) (entries_tree entries.now)) }
+    requires { MappingsReady (mappings_tree mappings.now) (entries_tree entries.now) }
+    ensures { IfOk result (λ made. entries_tree made ≡ passed_by (mappings_tree mappings.now) (entries_tree entries.now)) }
 {
     let mut made = Entries::new(alloc);
-    for one in ways.as_slice() {
+    for one in mappings.as_slice() {
         pass_entry(alloc, one, entries, &mut made)?;
     }
     Ok(made)

@@ -1,4 +1,4 @@
--- What comes by the ways of two editions is the converted record.
+-- What comes by the mappings of two editions is the converted record.
 use Rattle.std.proofs.Common.{◌≡◌, ℕ, ◌+◌, Bool, true, false, cond, List, [], ◌∷◌, ◌++◌, Option, Some, None, option_and_then, refl, ◌∙◌, ap}
 use Rattle.ax_relation.proofs.MovedShape.{slot_shape}
 use Rattle.ax_relation.specs.Moved.{entry_where}
@@ -16,16 +16,16 @@ use Rattle.ax_rescale.proofs.ConversionNamed.{source_value}
 use Rattle.ax_rescale.specs.Alike.{is_alike}
 use Rattle.ax_rescale.specs.ConvertedRecord.{passes, passing_entries, converted_record}
 use Rattle.ax_rescale.specs.ConvertedValue.{converted_value}
-use Rattle.ax_rescale.specs.Ways.{way_from, ways_from, no_ways, way_where, ways_below, ways_of, record_ways, value_where, passed_by}
+use Rattle.ax_rescale.specs.Mappings.{mapping_from, mappings_from, no_mappings, mapping_where, mappings_below, mappings_of, record_mappings, value_where, passed_by}
 
 abbrev rule_of : SlotsTree → List ℕ → Option (ℕ × KindTree)
 rule_of ss = λ name. slot_below name (compound ss)
 
 module _ (t : ℕ) (name : List ℕ) (l : KindTree) (ts ss : SlotsTree) (es : EntriesTree) (h : EntriesShape 1 ss es)
-    (below : (k : KindTree) (v : ValueTree) → is_shared_kind k l ≡ true → Shape k v → value_by (common_parts k l) (passed_by (ways_from (ways_below l k))) v ≡ passes l k v)
-    (later : passed_by (ways_from (ways_of (t + 1) ts (rule_of ss))) es ≡ passing_entries (t + 1) ts ss es) where
+    (below : (k : KindTree) (v : ValueTree) → is_shared_kind k l ≡ true → Shape k v → value_by (common_parts k l) (passed_by (mappings_from (mappings_below l k))) v ≡ passes l k v)
+    (later : passed_by (mappings_from (mappings_of (t + 1) ts (rule_of ss))) es ≡ passing_entries (t + 1) ts ss es) where
   shared_value : (s : ℕ × KindTree) (c : Bool) (o : Option ValueTree) → slot_named 1 name ss ≡ Some s → slot_value s.0 es ≡ o → is_shared_kind s.1 l ≡ true
-      → option_and_then (value_where None (common_parts s.1 l) (passed_by (ways_from (ways_below l s.1)))) o ≡ option_and_then (λ v. cond true (Some (passes l s.1 v)) (cond c (converted_value s.1 l v) None)) o
+      → option_and_then (value_where None (common_parts s.1 l) (passed_by (mappings_from (mappings_below l s.1)))) o ≡ option_and_then (λ v. cond true (Some (passes l s.1 v)) (cond c (converted_value s.1 l v) None)) o
   shared_value s c None found at shared = refl
   shared_value s c (Some v) found at shared = ap Some (below s.1 v shared (slot_shape 1 name ss es s.0 s.1 v found h at))
 
@@ -37,19 +37,19 @@ module _ (t : ℕ) (name : List ℕ) (l : KindTree) (ts ss : SlotsTree) (es : En
   nothing (Some v) = refl
 
   by_kinds : (s : ℕ × KindTree) (b c : Bool) → slot_named 1 name ss ≡ Some s → is_shared_kind s.1 l ≡ b
-      → passed_by (ways_from (cond b (way_from s.0 t None (common_parts s.1 l) (ways_from (ways_below l s.1)) ∷ []) (cond c (way_from s.0 t (Some (record { old = s.1; new = l })) 0 no_ways ∷ []) []) ++ ways_of (t + 1) ts (rule_of ss))) es
+      → passed_by (mappings_from (cond b (mapping_from s.0 t None (common_parts s.1 l) (mappings_from (mappings_below l s.1)) ∷ []) (cond c (mapping_from s.0 t (Some (record { old = s.1; new = l })) 0 no_mappings ∷ []) []) ++ mappings_of (t + 1) ts (rule_of ss))) es
       ≡ entry_where t (option_and_then (λ v. cond b (Some (passes l s.1 v)) (cond c (converted_value s.1 l v) None)) (slot_value s.0 es)) (passing_entries (t + 1) ts ss es)
   by_kinds s true c found shared = λ i. entry_where t (shared_value s c (slot_value s.0 es) found refl shared i) (later i)
   by_kinds s false true found shared = ap (entry_where t (option_and_then (converted_value s.1 l) (slot_value s.0 es))) later
   by_kinds s false false found shared = later ∙ (λ i. entry_where t (nothing (slot_value s.0 es) i) (passing_entries (t + 1) ts ss es))
 
   one_slot : (o : Option (ℕ × KindTree)) → slot_named 1 name ss ≡ o
-      → passed_by (ways_from (way_where t l o (ways_below l) ++ ways_of (t + 1) ts (rule_of ss))) es ≡ entry_where t (option_and_then (source_value l es) o) (passing_entries (t + 1) ts ss es)
+      → passed_by (mappings_from (mapping_where t l o (mappings_below l) ++ mappings_of (t + 1) ts (rule_of ss))) es ≡ entry_where t (option_and_then (source_value l es) o) (passing_entries (t + 1) ts ss es)
   one_slot None found = later
   one_slot (Some s) found = by_kinds s (is_shared_kind s.1 l) (is_alike s.1 l) found refl
 
 mutual
-  value_passes : (l k : KindTree) (v : ValueTree) → is_shared_kind k l ≡ true → Shape k v → value_by (common_parts k l) (passed_by (ways_from (ways_below l k))) v ≡ passes l k v
+  value_passes : (l k : KindTree) (v : ValueTree) → is_shared_kind k l ≡ true → Shape k v → value_by (common_parts k l) (passed_by (mappings_from (mappings_below l k))) v ≡ passes l k v
   value_passes (compound ts) (compound ss) (marked es) e h = ap marked (entries_pass 1 ts ss es h)
   value_passes (fixed g) (fixed (element w c)) (marked es) e h = absurd h
   value_passes (fixed g) (fixed (group ms)) (marked es) e h = absurd h
@@ -68,10 +68,10 @@ mutual
   value_passes _ _ (part_values ls) e h = cc
   value_passes _ _ _ e h = refl
 
-  entries_pass : (t : ℕ) (ts ss : SlotsTree) (es : EntriesTree) → EntriesShape 1 ss es → passed_by (ways_from (ways_of t ts (rule_of ss))) es ≡ passing_entries t ts ss es
+  entries_pass : (t : ℕ) (ts ss : SlotsTree) (es : EntriesTree) → EntriesShape 1 ss es → passed_by (mappings_from (mappings_of t ts (rule_of ss))) es ≡ passing_entries t ts ss es
   entries_pass t no_slots ss es h = refl
   entries_pass t (slot_and spare_slot ts) ss es h = entries_pass (t + 1) ts ss es h
   entries_pass t (slot_and (subitem name l) ts) ss es h = one_slot t name l ts ss es h (λ k v. value_passes l k v) (entries_pass (t + 1) ts ss es h) (slot_named 1 name ss) refl
 
-pub record_passes : (old new : SpecTree) (es : EntriesTree) → RecordShape old es → passed_by (ways_from (record_ways old new)) es ≡ converted_record old new es
+pub record_passes : (old new : SpecTree) (es : EntriesTree) → RecordShape old es → passed_by (mappings_from (record_mappings old new)) es ≡ converted_record old new es
 record_passes old new es h = entries_pass 1 (record_slots new) (record_slots old) es h.shape

@@ -10,7 +10,7 @@ ghost use Rattle.ax_values.specs.Decoding.{IsBodyFault, IsFaultOf};
 ghost use Rattle.ax_listing.specs.Shown.{ShowsRecords};
 
 use crate::masked_items::MaskedItems;
-use crate::place::Place;
+use crate::position::OctetPosition;
 use crate::records::show_record;
 use ax_format::category_digits;
 use ax_fspec::SlotMask;
@@ -40,7 +40,7 @@ pub fn show_records(
     let mut at = 0;
     let mut number = 0;
     while (at as usize) < body.len() {
-        let next = Place { body, at };
+        let next = OctetPosition { body, at };
         at = show_record(lister, masked, number, next, &path)?;
         number += 1;
     }

@@ -8,7 +8,7 @@ ghost use Rattle.ax_text_form.specs.Remarks.{remark};
 ghost use Rattle.ax_text_form.specs.ValueText.{one_onto};
 ghost use Rattle.ax_listing.specs.Shown.{line_of};
 
-use crate::element::Element;
+use crate::element::ListedElement;
 use ax_format::{Content, Name};
 use ax_held_kinds::HeldContent;
 use ax_octets::LinePath;
@@ -35,7 +35,7 @@ fn content_of<'a>(content: &'a HeldContent<'_>, number: u128) -> &'a Content
 pub(crate) fn put_under(
     lister: &mut Lister,
     number: u64,
-    element: Element<'_, '_>,
+    element: ListedElement<'_, '_>,
     path: &LinePath,
     name: &Name,
 ) -> Result<(), AllocError>
@@ -59,7 +59,7 @@ pub(crate) fn put_under(
 pub(crate) fn put_at(
     lister: &mut Lister,
     number: u128,
-    element: Element<'_, '_>,
+    element: ListedElement<'_, '_>,
     path: &LinePath,
 ) -> Result<(), AllocError>
     requires fits { number < 2 ^ element.width }

@@ -6,9 +6,9 @@ ghost use Rattle.ax_listing.specs.Elements.{ContentListable-prop};
 
 use ax_held_kinds::HeldContent;
 
-/// An element: its width in bits, and what its numbers mean.
+/// An element that is listed: its width in bits, and what its numbers mean.
 #[derive(Clone, Copy)]
-pub(crate) struct Element<'e, 'c> {
+pub(crate) struct ListedElement<'e, 'c> {
     pub(crate) width: u32,
     pub(crate) content: &'e HeldContent<'c>,
     pub(crate) ghost bounds: { IsWidth width },

@@ -9,10 +9,10 @@ ghost use Rattle.ax_listing.specs.Shown.{member_width, MemberInBounds, ShowsElem
 ghost use Rattle.ax_listing.specs.Stopped.{IsBitAfter, IsStopped};
 
 use crate::contents::{put_at, put_under};
-use crate::element::Element;
+use crate::element::ListedElement;
 use crate::numbers::{number_at, wide_number_at};
 use crate::paths::set_named;
-use crate::place::BitPlace;
+use crate::position::BitPosition;
 use crate::stop::{FixedStop, bit_after};
 use ax_format::Name;
 use ax_held_kinds::{HeldFixed, HeldMember, HeldMembers, ShortElement};
@@ -26,8 +26,8 @@ use std::alloc::AllocError;
 fn show_element(
     lister: &mut Lister,
     name: &Name,
-    element: Element<'_, '_>,
-    from: BitPlace<'_>,
+    element: ListedElement<'_, '_>,
+    from: BitPosition<'_>,
     path: &LinePath,
 ) -> Result<u32, FixedStop>
     ensures lines { OnOk result (ShowsElement element.entry (under path.now name.now) from.entry lister.old.out lister.new.out) }
@@ -50,8 +50,8 @@ fn show_element(
 fn show_wide_element(
     lister: &mut Lister,
     name: &Name,
-    element: Element<'_, '_>,
-    from: BitPlace<'_>,
+    element: ListedElement<'_, '_>,
+    from: BitPosition<'_>,
     path: &LinePath,
 ) -> Result<(), AllocError>
     requires within { from.at + element.width ≤ 8 * length from.body.now }
@@ -69,7 +69,7 @@ fn show_wide_element(
 fn show_short(
     lister: &mut Lister,
     short: &ShortElement<'_>,
-    from: BitPlace<'_>,
+    from: BitPosition<'_>,
     path: &LinePath,
 ) -> Result<u32, FixedStop>
     requires width { IsWidth short.now.width }
@@ -89,7 +89,7 @@ fn show_short(
 fn show_wide_spare(
     lister: &mut Lister,
     width: u32,
-    from: BitPlace<'_>,
+    from: BitPosition<'_>,
     path: &LinePath,
 ) -> Result<(), AllocError>
     requires width { IsWidth width }
@@ -104,7 +104,7 @@ fn show_wide_spare(
 pub(crate) fn show_fixed(
     lister: &mut Lister,
     fixed: &HeldFixed<'_>,
-    from: BitPlace<'_>,
+    from: BitPosition<'_>,
     path: &LinePath,
 ) -> Result<u32, FixedStop>
     requires bounds { FixedInBounds (held_fixed fixed.now) }
@@ -117,7 +117,7 @@ pub(crate) fn show_fixed(
         HeldFixed::Element { width, content } => {
             let end = bit_after(from, *width)?;
             let number = wide_number_at(from, *width);
-            let element = Element {
+            let element = ListedElement {
                 width: *width,
                 content,
             };
@@ -136,7 +136,7 @@ pub(crate) fn show_fixed(
 pub(crate) fn show_members(
     lister: &mut Lister,
     members: &HeldMembers<'_>,
-    from: BitPlace<'_>,
+    from: BitPosition<'_>,
     path: &LinePath,
 ) -> Result<u32, FixedStop>
     requires bounds { MembersInBounds (held_members members.now) }
@@ -147,7 +147,7 @@ pub(crate) fn show_members(
 {
     let mut at = from.at;
     for member in members.as_slice() {
-        let next = BitPlace {
+        let next = BitPosition {
             body: from.body,
             at,
         };
@@ -161,7 +161,7 @@ pub(crate) fn show_members(
 fn show_member(
     lister: &mut Lister,
     member: &HeldMember<'_>,
-    from: BitPlace<'_>,
+    from: BitPosition<'_>,
     path: &LinePath,
 ) -> Result<u32, FixedStop>
     requires bounds { MemberInBounds (held_member member.now) }
@@ -193,7 +193,7 @@ pub(crate) fn show_named(
     lister: &mut Lister,
     name: &Name,
     fixed: &HeldFixed<'_>,
-    from: BitPlace<'_>,
+    from: BitPosition<'_>,
     path: &LinePath,
 ) -> Result<u32, FixedStop>
     requires bounds { FixedInBounds (held_fixed fixed.now) }
@@ -204,7 +204,7 @@ pub(crate) fn show_named(
 {
     match fixed {
         HeldFixed::Element { width, content } => {
-            let element = Element {
+            let element = ListedElement {
                 width: *width,
                 content,
             };
@@ -222,7 +222,7 @@ fn show_group(
     lister: &mut Lister,
     name: &Name,
     members: &HeldMembers<'_>,
-    from: BitPlace<'_>,
+    from: BitPosition<'_>,
     path: &LinePath,
 ) -> Result<u32, FixedStop>
     requires bounds { MembersInBounds (held_members members.now) }

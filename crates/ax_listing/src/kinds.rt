@@ -9,7 +9,7 @@ ghost use Rattle.ax_values.specs.SlotReading.{HasSlotFailed};
 ghost use Rattle.ax_listing.specs.Shown.{FailsFrom, ShowsFrom, ShowsUnder, IsSlotShown, ShowsRepeated, ShowsSubitems};
 
 use crate::paths::{set_named, set_numbered};
-use crate::place::Place;
+use crate::position::OctetPosition;
 use crate::units::{show_alone, show_by_fx, show_extended, show_single};
 use ax_format::{Counter, Name};
 use ax_fspec::Presence;
@@ -18,12 +18,12 @@ use ax_octets::LinePath;
 use ax_text_form::Lister;
 use ax_values::{DecodeError, counter_at, explicit_content};
 
-/// The lines of the value of a kind that begins at a place. Ok is the octet after it.
+/// The lines of the value of a kind that begins at a position. Ok is the octet after it.
 #[cycle(show_kind)]
 pub(crate) fn show_value(
     lister: &mut Lister,
     kind: &HeldKind<'_>,
-    from: Place<'_>,
+    from: OctetPosition<'_>,
     path: &LinePath,
 ) -> Result<u32, DecodeError>
     requires bounds { InBounds (held_kind kind.now) }
@@ -45,7 +45,11 @@ pub(crate) fn show_value(
 
 /// The line of an explicit item. Ok is the octet after it.
 #[tactic(auto, using(ax_values::proofs::Continuing::errors))]
-fn show_explicit(lister: &mut Lister, from: Place<'_>, path: &LinePath) -> Result<u32, DecodeError>
+fn show_explicit(
+    lister: &mut Lister,
+    from: OctetPosition<'_>,
+    path: &LinePath,
+) -> Result<u32, DecodeError>
     requires bounds { InBounds (Tree.explicit) }
     ensures ok { IfOk result (λ end. ShowsFrom Tree.explicit path.now from.entry end lister.old.out lister.new.out) }
     ensures err { IfErr result (FailsFrom (Tree.explicit) from.entry) }
@@ -62,7 +66,7 @@ fn show_counted(
     lister: &mut Lister,
     size: Counter,
     inner: &HeldKind<'_>,
-    from: Place<'_>,
+    from: OctetPosition<'_>,
     path: &LinePath,
 ) -> Result<u32, DecodeError>
     requires bounds { InBounds (Tree.counted size (held_kind inner.now)) }
@@ -84,7 +88,7 @@ fn show_each(
     lister: &mut Lister,
     size: Counter,
     inner: &HeldKind<'_>,
-    from: Place<'_>,
+    from: OctetPosition<'_>,
     path: &LinePath,
 ) -> Result<(u32, u32), DecodeError>
     requires bounds { InBounds (Tree.counted size (held_kind inner.now)) }
@@ -97,7 +101,7 @@ fn show_each(
     let mut each = lister.blank_path();
     for number in 0..count {
         set_numbered(&mut each, path, number)?;
-        let next = Place {
+        let next = OctetPosition {
             body: from.body,
             at: here,
         };
@@ -112,7 +116,7 @@ fn show_each(
 fn show_compound(
     lister: &mut Lister,
     slots: &HeldSlots<'_>,
-    from: Place<'_>,
+    from: OctetPosition<'_>,
     path: &LinePath,
 ) -> Result<u32, DecodeError>
     requires bounds { InBounds (Tree.compound (held_slots slots.now)) }
@@ -133,7 +137,7 @@ fn show_compound(
 fn show_subitems(
     lister: &mut Lister,
     slots: &HeldSlots<'_>,
-    from: Place<'_>,
+    from: OctetPosition<'_>,
     path: &LinePath,
 ) -> Result<(u32, u32), DecodeError>
     requires bounds { InBounds (Tree.compound (held_slots slots.now)) }
@@ -146,7 +150,7 @@ fn show_subitems(
     let mut here = read_field(all, from.body, from.at, &mut left)?;
     let mut count = 0;
     while let Some(number) = left.take_first() {
-        let next = Place {
+        let next = OctetPosition {
             body: from.body,
             at: here,
         };
@@ -162,7 +166,7 @@ fn show_subitems(
 pub(crate) fn show_slot(
     lister: &mut Lister,
     slot: &HeldSlot<'_>,
-    from: Place<'_>,
+    from: OctetPosition<'_>,
     path: &LinePath,
 ) -> Result<u32, DecodeError>
     requires bounds { SlotInBounds (held_slot slot.now) }
@@ -187,7 +191,7 @@ fn show_under(
     lister: &mut Lister,
     name: &Name,
     kind: &HeldKind<'_>,
-    from: Place<'_>,
+    from: OctetPosition<'_>,
     path: &LinePath,
 ) -> Result<u32, DecodeError>
     requires bounds { InBounds (held_kind kind.now) }

@@ -11,7 +11,7 @@ mod masked_items;
 mod numbered;
 mod numbers;
 mod paths;
-mod place;
+mod position;
 mod records;
 mod room;
 mod stop;

@@ -3,12 +3,12 @@ ghost use Rattle.std.specs.Prelude.{◌≡◌, ◌+◌, ◌*◌, ◌^◌, ◌<�
 ghost use Rattle.ax_format.specs.InBounds.{IsWidth};
 ghost use Rattle.ax_listing.specs.Shown.{number_from};
 
-use crate::place::BitPlace;
+use crate::position::BitPosition;
 use ax_bits::{bits_at, short_bits_at};
 
 /// The number that the `width` bits from there on spell, of at most 56.
 #[inline(always)]
-pub(crate) fn number_at(from: BitPlace<'_>, width: u32) -> u64
+pub(crate) fn number_at(from: BitPosition<'_>, width: u32) -> u64
     requires width { (1 ≤ width) × (width ≤ 56) }
     requires within { from.at + width ≤ 8 * length from.body.now }
     ensures value { result ≡ number_from from.entry width }
@@ -18,7 +18,7 @@ pub(crate) fn number_at(from: BitPlace<'_>, width: u32) -> u64
 }
 
 /// The number that the `width` bits from there on spell, of any width.
-pub(crate) fn wide_number_at(from: BitPlace<'_>, width: u32) -> u128
+pub(crate) fn wide_number_at(from: BitPosition<'_>, width: u32) -> u128
     requires width { IsWidth width }
     requires within { from.at + width ≤ 8 * length from.body.now }
     ensures value { result ≡ number_from from.entry width }

@@ -10,20 +10,20 @@ ghost use Rattle.ax_listing.specs.Shown.{FailsFrom, ShowsRecord, ShowsItems};
 
 use crate::kinds::show_slot;
 use crate::masked_items::MaskedItems;
-use crate::place::Place;
+use crate::position::OctetPosition;
 use ax_fspec::{Presence, read_presence};
 use ax_octets::LinePath;
 use ax_text_form::Lister;
 use ax_values::DecodeError;
 
-/// The lines of the record of that number that begins at a place, under the path of its category. Ok is
+/// The lines of the record of that number that begins at a position, under the path of its category. Ok is
 /// the octet after it.
 #[tactic(auto, using(ax_values::proofs::Continuing::errors, crate::proofs::RecordLines::record_ways))]
 pub(crate) fn show_record(
     lister: &mut Lister,
     items: MaskedItems<'_, '_>,
     number: u32,
-    from: Place<'_>,
+    from: OctetPosition<'_>,
     path: &LinePath,
 ) -> Result<u32, DecodeError>
     requires spec { NoFlaw (spec_tree items.items.now) }
@@ -38,12 +38,12 @@ pub(crate) fn show_record(
     Ok(end)
 }
 
-/// The lines of the items of a record that begins at a place, under a path. Ok is the octet after them.
+/// The lines of the items of a record that begins at a position, under a path. Ok is the octet after them.
 #[tactic(auto, using(ax_values::proofs::Continuing::errors))]
 fn show_items(
     lister: &mut Lister,
     items: MaskedItems<'_, '_>,
-    from: Place<'_>,
+    from: OctetPosition<'_>,
     path: &LinePath,
 ) -> Result<u32, DecodeError>
     requires spec { NoFlaw (spec_tree items.items.now) }
@@ -56,7 +56,7 @@ fn show_items(
     let mut left = Presence::empty();
     let mut here = read_presence(items.mask, from.body, from.at, &mut left)?;
     while let Some(frn) = left.take_first() {
-        let next = Place {
+        let next = OctetPosition {
             body: from.body,
             at: here,
         };

@@ -5,7 +5,7 @@ ghost use Rattle.ax_format.specs.Sizes.{longest_body};
 ghost use Rattle.ax_listing.specs.Stopped.{IsBitAfter, IsStopped, IsUnitStop};
 ghost use Rattle.ax_listing.specs.declared.stop.FixedStop.TheVariants as Stop;
 
-use crate::place::BitPlace;
+use crate::position::BitPosition;
 use ax_format::{BodyCause, BodyFault};
 use ax_values::DecodeError;
 use std::alloc::AllocError;
@@ -46,7 +46,7 @@ impl FixedStop {
 /// The bit after the `width` bits from there on. RunsOut comes where the body ends before they do: judged element by element, so
 /// the width of a group isn't summed up before it is shown.
 #[inline(always)]
-pub(crate) fn bit_after(from: BitPlace<'_>, width: u32) -> Result<u32, FixedStop>
+pub(crate) fn bit_after(from: BitPosition<'_>, width: u32) -> Result<u32, FixedStop>
     requires width { IsWidth width }
     ensures end { IfOk result (IsBitAfter from.entry width) }
     ensures stop { IfErr result (IsStopped from.entry width) }

@@ -13,7 +13,7 @@ ghost use Rattle.ax_listing.specs.Stopped.{IsBitAfter, IsStopped};
 
 use crate::fixed::{show_fixed, show_members, show_named};
 use crate::paths::set_numbered;
-use crate::place::{BitPlace, Place};
+use crate::position::{BitPosition, OctetPosition};
 use crate::stop::FixedStop;
 use ax_format::{LastPart, Name};
 use ax_held_kinds::{HeldFixed, HeldParts};
@@ -26,7 +26,7 @@ use ax_values::{DecodeError, PartsLeft, has_fx};
 pub(crate) fn show_alone(
     lister: &mut Lister,
     fixed: &HeldFixed<'_>,
-    from: Place<'_>,
+    from: OctetPosition<'_>,
     path: &LinePath,
 ) -> Result<u32, DecodeError>
     requires bounds { InBounds (Tree.fixed (held_fixed fixed.now)) }
@@ -34,7 +34,7 @@ pub(crate) fn show_alone(
     ensures ok { IfOk result (λ end. ShowsFrom (Tree.fixed (held_fixed fixed.now)) path.now from.entry end lister.old.out lister.new.out) }
     ensures err { IfErr result (FailsFrom (Tree.fixed (held_fixed fixed.now)) from.entry) }
 {
-    let bits = BitPlace {
+    let bits = BitPosition {
         body: from.body,
         at: 8 * from.at,
     };
@@ -50,7 +50,7 @@ pub(crate) fn show_single(
     lister: &mut Lister,
     name: &Name,
     fixed: &HeldFixed<'_>,
-    from: Place<'_>,
+    from: OctetPosition<'_>,
     path: &LinePath,
 ) -> Result<u32, DecodeError>
     requires bounds { InBounds (Tree.fixed (held_fixed fixed.now)) }
@@ -58,7 +58,7 @@ pub(crate) fn show_single(
     ensures ok { IfOk result (λ end. ShowsUnder (Tree.fixed (held_fixed fixed.now)) path.now name.now from.entry end lister.old.out lister.new.out) }
     ensures err { IfErr result (FailsFrom (Tree.fixed (held_fixed fixed.now)) from.entry) }
 {
-    let bits = BitPlace {
+    let bits = BitPosition {
         body: from.body,
         at: 8 * from.at,
     };
@@ -75,7 +75,7 @@ fn show_parts(
     lister: &mut Lister,
     last: LastPart,
     parts: &HeldParts<'_>,
-    from: Place<'_>,
+    from: OctetPosition<'_>,
     path: &LinePath,
 ) -> Result<(u32, u32), DecodeError>
     requires bounds { InBounds (Tree.extended last (map held_part parts.now)) }
@@ -86,7 +86,7 @@ fn show_parts(
     let mut left = PartsLeft::of(last, parts.as_slice(), from.body, from.at);
     let mut count = 0;
     while let Some((part, first)) = left.next()? {
-        let bits = BitPlace {
+        let bits = BitPosition {
             body: from.body,
             at: first,
         };
@@ -104,7 +104,7 @@ pub(crate) fn show_extended(
     lister: &mut Lister,
     last: LastPart,
     parts: &HeldParts<'_>,
-    from: Place<'_>,
+    from: OctetPosition<'_>,
     path: &LinePath,
 ) -> Result<u32, DecodeError>
     requires bounds { InBounds (Tree.extended last (map held_part parts.now)) }
@@ -125,7 +125,7 @@ fn show_occurrence(
     lister: &mut Lister,
     fixed: &HeldFixed<'_>,
     number: u32,
-    from: BitPlace<'_>,
+    from: BitPosition<'_>,
     path: &LinePath,
 ) -> Result<u32, FixedStop>
     requires bounds { FixedInBounds (held_fixed fixed.now) }
@@ -145,7 +145,7 @@ fn show_occurrence(
 fn show_run(
     lister: &mut Lister,
     fixed: &HeldFixed<'_>,
-    from: Place<'_>,
+    from: OctetPosition<'_>,
     path: &LinePath,
 ) -> Result<(u32, u32), DecodeError>
     requires bounds { InBounds (Tree.by_fx (held_fixed fixed.now)) }
@@ -156,7 +156,7 @@ fn show_run(
     let mut here = from.at;
     let mut count = 0;
     loop {
-        let bits = BitPlace {
+        let bits = BitPosition {
             body: from.body,
             at: 8 * here,
         };
@@ -178,7 +178,7 @@ fn show_run(
 pub(crate) fn show_by_fx(
     lister: &mut Lister,
     fixed: &HeldFixed<'_>,
-    from: Place<'_>,
+    from: OctetPosition<'_>,
     path: &LinePath,
 ) -> Result<u32, DecodeError>
     requires bounds { InBounds (Tree.by_fx (held_fixed fixed.now)) }

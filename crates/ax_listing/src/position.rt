@@ -1,10 +1,10 @@
-//! Places in a body, at which what is shown begins.
+//! Positions in a body, at which what is shown begins.
 ghost use Rattle.std.specs.Prelude.{◌*◌, ◌≤◌, length};
 ghost use Rattle.ax_format.specs.Sizes.{longest_body};
 
 /// An octet of a body, told from 0, or its end.
 #[derive(Clone, Copy)]
-pub(crate) struct Place<'b> {
+pub(crate) struct OctetPosition<'b> {
     pub(crate) body: &'b [u8],
     pub(crate) at: u32,
     pub(crate) ghost short: { length body.now ≤ longest_body },
@@ -13,7 +13,7 @@ pub(crate) struct Place<'b> {
 
 /// A bit of a body, told from 0, the highest of the first octet first, or its end.
 #[derive(Clone, Copy)]
-pub(crate) struct BitPlace<'b> {
+pub(crate) struct BitPosition<'b> {
     pub(crate) body: &'b [u8],
     pub(crate) at: u32,
     pub(crate) ghost short: { length body.now ≤ longest_body },

@@ -4,8 +4,8 @@ pub mod FilterTokens
 pub mod Leading
 pub mod Meaning
 pub mod Parts
+pub mod PlanRows
 pub mod Plans
-pub mod Rows
 pub mod Spelling
 pub mod Tests
 pub mod Texts

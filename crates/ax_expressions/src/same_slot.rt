@@ -1,7 +1,7 @@
 //! Plans of one level that ask one slot alone, and the same: a group of them would say nothing that each doesn't, so they stand in one row.
 ghost use Rattle.std.specs.Prelude.{◌≡◌, ◌*◌, ◌≤◌, ◌++◌, ◌∷◌, [], length, IfOk, OnOk};
+ghost use Rattle.ax_expressions.specs.PlanRows.{plans_in};
 ghost use Rattle.ax_expressions.specs.Plans.{AreAlike};
-ghost use Rattle.ax_expressions.specs.Rows.{plans_in};
 
 use crate::grouping::{TOGETHER, asked_by, several};
 use crate::plan::{Plan, Plans};
@@ -49,14 +49,14 @@ fn begins_row(before: &[Plan], slot: u32) -> bool {
 /// The plans of a level, those in rows made one: the plans that are made, and the row that is open, of plans that ask the slot `slot`
 /// alone and the same. Where no row is open the slot is 0.
 #[derive(Drop)]
-struct Rows {
+struct PlanRows {
     made: Vec<Plan>,
     row: Plans,
     slot: u32,
 }
 
 /// Makes one plan of the row that is open, if one is.
-fn close_row(alloc: Global, all: bool, rows: &mut Rows) -> Result<(), AllocError>
+fn close_row(alloc: Global, all: bool, rows: &mut PlanRows) -> Result<(), AllocError>
     ensures alike { OnOk result (AreAlike all (plans_in rows.new) (plans_in rows.old)) }
     ensures none { OnOk result (rows.new.row ≡ []) }
 {
@@ -75,7 +75,7 @@ fn open_row(
     all: bool,
     before: &[Plan],
     own: u32,
-    rows: &mut Rows,
+    rows: &mut PlanRows,
 ) -> Result<(), AllocError>
     ensures alike { OnOk result (AreAlike all (plans_in rows.new) (plans_in rows.old)) }
     ensures room { OnOk result (length rows.new.row ≤ 4294967294) }
@@ -89,7 +89,7 @@ fn open_row(
 }
 
 /// Adds a plan to the row, if one is open, or else to the plans that are made.
-fn put(all: bool, plan: Plan, rows: &mut Rows) -> Result<(), AllocError>
+fn put(all: bool, plan: Plan, rows: &mut PlanRows) -> Result<(), AllocError>
     requires room { length rows.old.row ≤ 4294967294 }
     ensures { OnOk result (AreAlike all (plans_in rows.new) (rows.old.made.items ++ (rows.old.row ++ plan ∷ []))) }
 {
@@ -106,7 +106,7 @@ pub fn joined_by_slot(alloc: Global, all: bool, plans: Vec<Plan>) -> Result<Vec<
     ensures { IfOk result (λ made. AreAlike all made.items plans.items) }
 {
     let mut left = plans;
-    let mut rows = Rows {
+    let mut rows = PlanRows {
         made: Vec::new(alloc),
         row: Plans::new(alloc),
         slot: 0,

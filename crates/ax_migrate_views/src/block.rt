@@ -21,7 +21,7 @@ use ax_walk::scan;
 /// The most octets of a data block, and of lines that are kept.
 const LONGEST: u32 = 65_535;
 
-/// A data block, and the number that its lines name it by.
+/// A block of an input, and its number there, by which its lines name it.
 #[derive(Clone, Copy)]
 pub(crate) struct NumberedBlock<'r, 'b> {
     pub(crate) number: u64,

@@ -160,27 +160,27 @@ pub(crate) fn kept_slots(
     Ok(KeptSlots { leaving, short })
 }
 
-/// The slots that a record's presence field marks, and the octet after it, at which the first of their items begins.
+/// The marked slots of a presence field, and the octet after it, at which the first of their items begins.
 #[derive(Clone, Copy)]
-struct MarkedSlots {
+struct MarkedItems {
     marked: Presence,
-    items: u32,
+    begin: u32,
 }
 
 /// Whether the item of the slot, if one is given, has fewer octets than `short` has for it. What stands behind it isn't looked at.
 #[inline]
 fn is_short(
     codec: &Codec,
-    marks: MarkedSlots,
+    items: MarkedItems,
     body: &[u8],
     slot: Option<u32>,
     short: &[u32],
 ) -> bool
     requires body { length body.now ≤ longest_body }
-    requires field { EndsField codec.now body.now marks.items marks.marked }
+    requires field { EndsField codec.now body.now items.begin items.marked }
     requires short { length short.now ≡ 127 }
     requires slot { IfSome slot (λ s. s < 127) }
-    ensures { IsTrue result → IfSome slot (λ s. HasFewThere codec.now marks.marked body.now marks.items s (get_or short.now s 0)) }
+    ensures { IsTrue result → IfSome slot (λ s. HasFewThere codec.now items.marked body.now items.begin s (get_or short.now s 0)) }
 {
     let Some(slot) = slot else {
         return true;
@@ -189,7 +189,7 @@ fn is_short(
     if few == 0 {
         return false;
     }
-    match marked_item(codec, marks.marked, body, marks.items, slot) {
+    match marked_item(codec, items.marked, body, items.begin, slot) {
         Some(item) => item.octets().len() < few as usize,
         None => false,
     }
@@ -206,14 +206,14 @@ pub(crate) fn kept_end(rows: &RecordRows<'_>, kept: &KeptSlots, body: &[u8], at:
     ensures { IfSome result (IsKeptAt rows.now.codec.now kept.now body.now at) }
 {
     let mut marked = Presence::empty();
-    let Ok(items) = read_presence(&rows.codec.mask, body, at, &mut marked) else {
+    let Ok(begin) = read_presence(&rows.codec.mask, body, at, &mut marked) else {
         return None;
     };
     let short = kept.short.as_slice();
     let mut leaving = marked.common(&kept.leaving);
     let first = leaving.take_first();
-    let marks = MarkedSlots { marked, items };
-    if leaving.take_first().is_some() || !is_short(rows.codec, marks, body, first, short) {
+    let items = MarkedItems { marked, begin };
+    if leaving.take_first().is_some() || !is_short(rows.codec, items, body, first, short) {
         return None;
     }
     let mut notes = Notes::new();

@@ -1,6 +1,6 @@
 -- What is told and counted of an object of the outside, before and after.
 use Rattle.std.specs.Prelude.{◌≡◌, ℕ, ◌+◌, ◌<◌, ◌≤◌, List, ◌++◌, length, take, Option, Result, OnOk, OnErr}
-use Rattle.ax_endpoints.specs.Told.{with_end, Rose}
+use Rattle.ax_endpoints.specs.Told.{with_front, with_end, Rose}
 use Rattle.ax_endpoints.specs.declared.libraries.Library as LibraryOf
 use Rattle.ax_endpoints.specs.declared.sinks.Sink as SinkOf
 use Rattle.ax_endpoints.specs.declared.sinks.SinkFailed.{SinkFailed}
@@ -56,6 +56,10 @@ pub record IsUntouched (i : SourceChange) : Type 0 where
   pub left : i.left' ≡ i.left
   pub taken : i.taken' ≡ i.taken
 
+-- octets were taken that stand at the front of the buffer, which they don't fill
+abbrev pub TakesFront : SourceChange → List ℕ → Type 0
+TakesFront i buffer = (n : ℕ) × (n < length buffer) × (i.left ≡ with_front (take n buffer) i.left') × (i.taken' ≡ i.taken + n)
+
 -- ---- a sink
 
 pub record SinkChange : Type 0 where
@@ -107,3 +111,18 @@ pub record Wrote (o : SinkChange) (result : Result Unit SinkFailed) (text : List
   pub later : o.faults ≤ o.faults'
   pub once : o.faults' ≤ o.faults + 1
   pub quiet : OnOk result (o.faults' ≡ o.faults)
+
+-- ---- a source, a sink of the output and one of the report
+
+pub record Changes : Type 0 where
+  pub source : SourceChange
+  pub out : SinkChange
+  pub report : SinkChange
+
+-- those of three objects, each before and after
+abbrev pub changes_of : {S K R : Type 0} → SourceOf.Ghosts S → SinkOf.Ghosts K → SinkOf.Ghosts R → S → S → K → K → R → R → Changes
+changes_of source_ghosts out_ghosts report_ghosts source source' out out' report report' = record {
+  source = source_change source_ghosts source source';
+  out = sink_change out_ghosts out out';
+  report = sink_change report_ghosts report report';
+}

@@ -1,5 +1,6 @@
 //! Whole pieces and whole buffers, however the calls below cut them.
 ghost use Rattle.std.specs.Prelude.{◌≡◌, ℕ, ◌+◌, ◌<◌, ◌≤◌, length, take, IfOk, OnOk, OnErr};
+ghost use Rattle.ax_endpoints.specs.Changes.{TakesFront, source_change};
 ghost use Rattle.ax_endpoints.specs.Told.{with_front, with_end, IsAtEnd, Rose};
 
 use crate::sinks::{Sink, SinkFailed};
@@ -37,9 +38,7 @@ pub fn fill<S: Source>(source: &mut S, buffer: &mut [u8]) -> Result<usize, Sourc
     ensures gives { IfOk result (λ n. S.left source.old ≡ with_front (take n buffer.new) (S.left source.new)) }
     ensures end { IfOk result (λ n. n < length buffer.new → IsAtEnd (S.left source.new)) }
     ensures number { IfOk result (λ n. S.taken source.new ≡ S.taken source.old + n) }
-    ensures front { OnErr result ((n : ℕ) × (n < length buffer.new)
-        × (S.left source.old ≡ with_front (take n buffer.new) (S.left source.new))
-        × (S.taken source.new ≡ S.taken source.old + n)) }
+    ensures front { OnErr result (TakesFront (source_change S.Source source.old source.new) buffer.new) }
     ensures rose { OnErr result (Rose (S.faults source.old) (S.faults source.new)) }
     ensures never_falls { S.faults source.old ≤ S.faults source.new }
     ensures once { S.faults source.new ≤ S.faults source.old + 1 }

@@ -1,8 +1,9 @@
 //! Whether a value has a kind's shape. Nothing here takes memory.
-ghost use Rattle.std.specs.Prelude.{◌≡◌, ◌+◌, ◌^◌, ◌&&◌, nat_lt, MatchOption, false, map, length};
+ghost use Rattle.std.specs.Prelude.{◌≡◌, ◌^◌, ◌&&◌, nat_lt, map, length};
 ghost use Rattle.ax_format.specs.Fitting.{number_fits, fixed_fits, member_fits, members_fit, lists_fit, parts_fit, each_fits, counted_fit, kind_fits, entries_fit};
+ghost use Rattle.ax_format.specs.OfCode.{AreAfterSlot};
 ghost use Rattle.ax_format.specs.Plain.{fixed_tree, member_tree, members_tree, part_tree, kind_tree, slot_tree, slots_tree, value_tree, values_tree, lists_tree, entries_tree};
-ghost use Rattle.ax_format.specs.Tree.{SlotsTree, slot_and, value_count};
+ghost use Rattle.ax_format.specs.Tree.{value_count};
 ghost use Rattle.ax_format.specs.Widths.{counter_width};
 ghost use Rattle.std.specs.List.{list_all};
 
@@ -193,9 +194,7 @@ fn fits_slots(slots: &Slots, entries: &Entries) -> bool
 /// The entries after the one of this slot, if there is one. None comes where that doesn't fit.
 #[cycle(kind_fits)]
 fn after_slot<'e>(number: u64, slot: &Slot, entries: &'e [Entry]) -> Option<&'e [Entry]>
-    ensures { MatchOption result
-        ((ss : SlotsTree) → entries_fit number (slot_and (slot_tree slot.now) ss) (entries_tree entries.now) ≡ false)
-        (λ rest. (ss : SlotsTree) → entries_fit number (slot_and (slot_tree slot.now) ss) (entries_tree entries.now) ≡ entries_fit (number + 1) ss (entries_tree rest.now)) }
+    ensures { AreAfterSlot number (slot_tree slot.now) entries.now result }
 {
     let Slot::Sub { kind, .. } = slot else {
         return Some(entries);

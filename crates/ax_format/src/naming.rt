@@ -1,9 +1,10 @@
 //! Members, subitems and UAP slots by name: the first of that name, with its number. Each looks at all that stand before
 //! it, and takes no memory.
-ghost use Rattle.std.specs.Prelude.{◌≡◌, None, Some, map, option_map, MatchOption};
+ghost use Rattle.std.specs.Prelude.{◌≡◌, option_map};
 ghost use Rattle.std.specs.Option.{option_copied};
-ghost use Rattle.ax_format.specs.Plain.{fixed_tree, member_tree, members_tree, part_tree, kind_tree, slot_tree, slots_tree};
-ghost use Rattle.ax_format.specs.Naming.{fixed_named, member_named, part_named, kind_named, slot_named, frn_of, is_slot_of};
+ghost use Rattle.ax_format.specs.OfCode.{FindsMember, FindsInParts, FindsSlot};
+ghost use Rattle.ax_format.specs.Plain.{fixed_tree, member_tree, kind_tree, slot_tree};
+ghost use Rattle.ax_format.specs.Naming.{fixed_named, kind_named, frn_of, is_slot_of};
 
 use crate::kind::{Fixed, Kind, Member, Members, Parts, Slot, Slots};
 use crate::name::Name;
@@ -22,8 +23,7 @@ fn fixed_of<'k>(member: &'k Member, name: &Name) -> Option<&'k Fixed>
 /// The first member of that name, with its number from 0. None comes exactly where no member has it.
 #[tactic(auto, using(crate::proofs::Namings::members))]
 pub fn find_member<'k>(members: &'k Members, name: &Name) -> Option<(u32, &'k Fixed)>
-    ensures { MatchOption result (member_named 0 name.now (members_tree members.now) ≡ None)
-        (λ found. member_named 0 name.now (members_tree members.now) ≡ Some (found.0, fixed_tree found.1.now)) }
+    ensures { FindsMember name.now members.now result }
 {
     let mut number: u32 = 0;
     for member in members.as_slice() {
@@ -39,8 +39,7 @@ pub fn find_member<'k>(members: &'k Members, name: &Name) -> Option<(u32, &'k Fi
 /// None comes exactly where no part has such a member.
 #[tactic(auto, using(crate::proofs::Namings::parts))]
 pub fn find_in_parts<'k>(parts: &'k Parts, name: &Name) -> Option<(u32, u32, &'k Fixed)>
-    ensures { MatchOption result (part_named 0 name.now (map part_tree parts.now) ≡ None)
-        (λ found. part_named 0 name.now (map part_tree parts.now) ≡ Some (found.0, (found.1, fixed_tree found.2.now))) }
+    ensures { FindsInParts name.now parts.now result }
 {
     let mut number: u32 = 0;
     for part in parts.as_slice() {
@@ -65,8 +64,7 @@ fn kind_of_name<'k>(slot: &'k Slot, name: &Name) -> Option<&'k Kind>
 /// The first subitem of that name, with the number of its slot from 1. None comes exactly where no slot has it.
 #[tactic(auto, using(crate::proofs::Namings::slots))]
 pub fn find_slot<'k>(slots: &'k Slots, name: &Name) -> Option<(u32, &'k Kind)>
-    ensures { MatchOption result (slot_named 1 name.now (slots_tree slots.now) ≡ None)
-        (λ found. slot_named 1 name.now (slots_tree slots.now) ≡ Some (found.0, kind_tree found.1.now)) }
+    ensures { FindsSlot name.now slots.now result }
 {
     let mut before: u32 = 0;
     for slot in slots.as_slice() {

@@ -1,7 +1,8 @@
 -- What a walk over marked slots meets, from its start on.
-use Rattle.std.specs.Prelude.{ℕ, ◌+◌, ◌-◌, ◌*◌, Bool, false, true, List, ◌++◌, take, drop, get_or}
+use Rattle.std.specs.Prelude.{◌≡◌, ℕ, ◌+◌, ◌-◌, ◌*◌, Bool, false, true, List, ◌++◌, take, drop, get_or, Option, IfSome, option_map}
 use Rattle.ax_fspec.specs.Marks.{seven}
 use Rattle.ax_fspec.specs.Reading.{FailsAt, entries_at}
+use Rattle.ax_format.specs.At.{slot_value}
 use Rattle.ax_format.specs.Presence.{NoneUndefined}
 use Rattle.ax_format.specs.Reader.{Read}
 use Rattle.ax_format.specs.Tree.{EntriesTree, KindTree, ValueTree, counted, defined_slots}
@@ -19,9 +20,10 @@ use Rattle.ax_walk.specs.InPlace.{FollowsEntries}
 use Rattle.ax_walk.specs.Left.{Occurrence}
 use Rattle.ax_walk.specs.Placing.{PlacesEntries, window_value}
 use Rattle.ax_walk.specs.Rows.{HaveRows, SlotsLead, marks_of, slots_at, tree_of}
-use Rattle.ax_walk.specs.Shown.{AreOccurrences, occurrences_in}
-use Rattle.ax_walk.specs.Values.{entries_found, value_in}
+use Rattle.ax_walk.specs.Shown.{AreOccurrences, item_value, occurrences_in}
+use Rattle.ax_walk.specs.Values.{IsGot, entries_found, value_in}
 use Rattle.ax_walk.specs.Walking.{Walks, along, fx_kind}
+use Rattle.ax_walk.specs.declared.item.ItemView.{ItemView}
 use Rattle.ax_walk.specs.declared.places.PlacedSlots.{PlacedSlots}
 use Rattle.ax_walk.specs.declared.places.Places.{Places}
 use Rattle.ax_walk.specs.declared.places.Window.{Window}
@@ -55,6 +57,15 @@ FailsMarked nodes links marks start fault = FailsAt (entries_from nodes links ma
 -- these octets stand right after the entries before that of the slot
 abbrev pub FollowsFound : List Node → List ℕ → List ℕ → Start → ℕ → List ℕ → Type 0
 FollowsFound nodes links marks start slot octets = FollowsEntries nodes links slot (entries_found (entries_from nodes links marks start)) start.body.now start.at octets
+
+-- wherever they are all read, the item has the value of the slot, or there is none where the slot isn't marked
+abbrev pub HasFoundValue : List Node → List ℕ → List ℕ → Start → ℕ → Option ItemView → Type 0
+HasFoundValue nodes links marks start slot found =
+    IsGot (entries_from nodes links marks start) → option_map item_value found ≡ slot_value slot (entries_found (entries_from nodes links marks start))
+
+-- and it stands right after the entries before
+abbrev pub StandsFound : List Node → List ℕ → List ℕ → Start → ℕ → Option ItemView → Type 0
+StandsFound nodes links marks start slot found = IsGot (entries_from nodes links marks start) → IfSome found (λ item. FollowsFound nodes links marks start slot item.body.now)
 
 -- they are read up to octet `end`, and stand where the places say
 abbrev pub PlacesMarked : Slots → Start → Places → ℕ → Type 0

@@ -3,6 +3,7 @@ use Rattle.std.specs.Prelude.{◌≡◌, ℕ, ◌-◌, ◌<◌, ◌≤◌, Bool,
 use Rattle.std.specs.Coded.{Coded-set, coded_ℕ, coded_list}
 use Rattle.ax_bits.specs.Bits.{bits}
 use Rattle.ax_fspec.specs.Marks.{IsMarked}
+use Rattle.ax_fspec.specs.declared.mask.SlotMask.{SlotMask}
 use Rattle.ax_format.specs.At.{slot_value}
 use Rattle.ax_format.specs.Canonical.{canon}
 use Rattle.ax_format.specs.InBounds.{InBounds}
@@ -12,6 +13,7 @@ use Rattle.ax_codec.specs.Meaning.{meanings, linked_slots}
 use Rattle.ax_codec.specs.Table.{SlotLinksWithin, kind_at, record_kind_at}
 use Rattle.ax_codec.specs.declared.codec.Codec.{Codec}
 use Rattle.ax_codec.specs.declared.node.Node.{Node}
+use Rattle.ax_codec.specs.declared.node.Node.TheVariants as Of
 use Rattle.ax_walk.specs.InPlace.{FollowsEntries}
 use Rattle.ax_walk.specs.Shown.{item_kind, item_value}
 use Rattle.ax_walk.specs.Values.{IsOne, value_read, value_in, entries_in}
@@ -68,6 +70,11 @@ pub record PlacesKind (nodes : List Node) (links body : List ℕ) (at : ℕ) (pl
   pub entries : EntriesTree
   pub read : Gets (kind_read (record_kind_at nodes links) body at) body at end (marked entries)
   pub placed : ArePlaced nodes links places.marked body entries places.windows
+
+-- the subitems of a compound stand in its octets where the places say
+abbrev pub PlacesCompound : ItemView → Places → Type 0
+PlacesCompound item places =
+    (mask : SlotMask) (links : List ℕ) → get_or item.codec.now.nodes (item.link - 1) Of.Explicit ≡ Of.Compound mask links → PlacesKind item.codec.now.nodes links item.body.now 0 places (length item.body.now)
 
 -- ---- one slot
 

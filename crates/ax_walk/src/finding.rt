@@ -11,11 +11,11 @@ ghost use Rattle.ax_codec.specs.Table.{SlotLinksWithin, kind_at, record_kind_at}
 ghost use Rattle.ax_fspec.specs.Reading.{IsMaskOf};
 ghost use Rattle.ax_format.specs.At.{slot_value, number_at};
 ghost use Rattle.ax_walk.specs.InPlace.{EndsField, StandsInPlace};
-ghost use Rattle.ax_walk.specs.Marked.{FollowsFound, MarksDefined, entries_from};
+ghost use Rattle.ax_walk.specs.Marked.{HasFoundValue, MarksDefined, StandsFound};
 ghost use Rattle.ax_walk.specs.Placing.{IsMarkedItem};
 ghost use Rattle.ax_walk.specs.Rows.{AreSlots, IsField};
 ghost use Rattle.ax_walk.specs.Shown.{item_value, IsOfSlot};
-ghost use Rattle.ax_walk.specs.Values.{IsGot, IsOne, entries_found, value_in, entries_in, SpellsAny};
+ghost use Rattle.ax_walk.specs.Values.{IsOne, value_in, entries_in, SpellsAny};
 ghost use Rattle.ax_walk.specs.Walking.{WalksKind, FailsKind};
 
 use crate::by_rows::field_octets;
@@ -208,11 +208,9 @@ fn find_marked<'c, 'a>(
     requires slots { AreSlots codec.now.nodes slots.now }
     requires marks { AreBits marked }
     requires clear { MarksDefined codec.now.nodes slots.now marked }
-    ensures value { IsGot (entries_from codec.now.nodes slots.now marked start.entry)
-        → option_map item_value result ≡ slot_value slot (entries_found (entries_from codec.now.nodes slots.now marked start.entry)) }
+    ensures value { HasFoundValue codec.now.nodes slots.now marked start.entry slot result }
     ensures place { IfSome result (IsOfSlot codec.now slots.now slot) }
-    ensures window { IsGot (entries_from codec.now.nodes slots.now marked start.entry)
-        → IfSome result (λ item. FollowsFound codec.now.nodes slots.now marked start.entry slot item.body.now) }
+    ensures window { StandsFound codec.now.nodes slots.now marked start.entry slot result }
 {
     let body = start.body;
     let mut notes = Notes::new();

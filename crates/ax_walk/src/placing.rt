@@ -1,13 +1,11 @@
 //! Walks that tell where the values of marked slots stand.
-ghost use Rattle.std.specs.Prelude.{◌≡◌, ℕ, ◌-◌, ◌≤◌, List, length, get_or, IfSome, IfNone};
+ghost use Rattle.std.specs.Prelude.{◌≡◌, ◌≤◌, length, IfSome, IfNone};
 ghost use Rattle.ax_bits.specs.Bits.{AreBits};
-ghost use Rattle.ax_fspec.specs.declared.mask.SlotMask.{SlotMask};
 ghost use Rattle.ax_format.specs.Sizes.{longest_body};
 ghost use Rattle.ax_codec.specs.NodeRows.{EachRows};
 ghost use Rattle.ax_codec.specs.Table.{record_kind_at};
-ghost use Rattle.ax_codec.specs.declared.node.Node.TheVariants as Of;
 ghost use Rattle.ax_walk.specs.Marked.{MarksDefined, FailsMarked, PlacesMarked, slots_kind};
-ghost use Rattle.ax_walk.specs.Placing.{PlacesKind};
+ghost use Rattle.ax_walk.specs.Placing.{PlacesCompound, PlacesKind};
 ghost use Rattle.ax_walk.specs.Walking.{FailsKind, FailsFrom};
 
 use crate::compound_rows::walk_record_item;
@@ -108,8 +106,7 @@ fn place_items(
 
 /// Where the subitems of a compound stand in its octets.
 pub fn place_subitems(item: &ItemView<'_, '_>, places: &mut Places)
-    ensures { (mask : SlotMask) (links : List ℕ) → get_or item.now.codec.now.nodes (item.now.link - 1) Of.Explicit ≡ Of.Compound mask links
-        → PlacesKind item.now.codec.now.nodes links item.now.body.now 0 places.new (length item.now.body.now) }
+    ensures { PlacesCompound item.now places.new }
 {
     if let Node::Compound { mask, slots } = item.node() {
         let mut notes = Notes::new();

@@ -6,7 +6,9 @@ use Rattle.ax_lines.specs.declared.text_fault.TextFault.TheVariants.{LineTooLong
 use Rattle.ax_lines.specs.Commands.{LineAnswer, gives, nothing, refused, LineCommand}
 use Rattle.ax_format.specs.Blocks.{BlockTree}
 use Rattle.ax_format.specs.CanonicalOctets.{canon_over, category_of}
+use Rattle.ax_format.specs.Plain.{catalogue_tree}
 use Rattle.ax_format.specs.Specification.{SpecTree, spec_of}
+use Rattle.ax_format.specs.declared.spec.Spec.{Spec}
 use Rattle.ax_tokens.specs.FirstBad.{FirstBad}
 use Rattle.ax_tokens.specs.Stopping.{texts_of}
 use Rattle.ax_tokens.specs.Faults.{HasBadByte, IsTooDeep}
@@ -55,3 +57,7 @@ pub data AnswersLine (catalogue : List SpecTree) (line : List ℕ) (answer : Lin
 -- whatever the line's number
 abbrev pub build_command : List SpecTree → LineCommand TextFault
 build_command catalogue = λ number line answer. AnswersLine catalogue line answer
+
+-- that under the code's catalogue
+abbrev pub command_of : List Spec → LineCommand TextFault
+command_of catalogue = build_command (catalogue_tree catalogue)

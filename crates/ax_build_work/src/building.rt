@@ -1,10 +1,9 @@
 //! From a line to the octets of its block.
-ghost use Rattle.std.specs.Prelude.{◌≡◌, ◌≤◌, ◌^◌, length, IfOk, IfErr, MatchOption};
+ghost use Rattle.std.specs.Prelude.{◌≡◌, ◌≤◌, ◌^◌, length, IfOk, IfErr};
 ghost use Rattle.ax_block_reader.specs.BlockTexts.{canonical_length};
 ghost use Rattle.ax_text_form.specs.CatalogueBlocks.{IsBlockOf};
-ghost use Rattle.ax_build_work.specs.BuildCommand.{AnswersLine, IsBuiltOf, canon_under};
-ghost use Rattle.ax_build_work.specs.Stops.{NotBuilt, StopsLine};
-ghost use Rattle.ax_lines.specs.Commands.{gives, nothing};
+ghost use Rattle.ax_build_work.specs.BuildCommand.{IsBuiltOf, canon_under};
+ghost use Rattle.ax_build_work.specs.Stops.{AnswersMade, NotBuilt, StopsLine};
 ghost use Rattle.ax_lines.specs.Ending.{longest_line};
 ghost use Rattle.ax_format.specs.Plain.{catalogue_tree, block_tree};
 ghost use Rattle.ax_format.specs.Sizes.{longest_block};
@@ -71,7 +70,7 @@ pub(crate) fn line_octets(
     requires same { tables.now ≡ items.now }
     requires line { length line.now ≤ longest_line }
     requires room { length room.old ≤ 2 ^ 20 }
-    ensures answer { IfOk result (λ made. MatchOption made (AnswersLine (catalogue_tree items.now) line.now nothing) (λ octets. AnswersLine (catalogue_tree items.now) line.now (gives octets.items))) }
+    ensures answer { IfOk result (AnswersMade (catalogue_tree items.now) line.now) }
     ensures stop { IfErr result (StopsLine (catalogue_tree items.now) line.now) }
 {
     if let Some(printed) = printed_octets(alloc, tables, line, room)? {

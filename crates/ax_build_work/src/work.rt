@@ -1,10 +1,8 @@
 //! The command `build` over an input.
 ghost use Rattle.std.specs.Prelude.{◌≡◌, ◌≤◌, ◌^◌, length};
-ghost use Rattle.ax_build_work.specs.BuildCommand.{build_command};
-ghost use Rattle.ax_lines.specs.Completing.{Completes};
-ghost use Rattle.ax_lines.specs.Ending.{longest_input, longest_line};
-ghost use Rattle.ax_lines.specs.Runs.{LinesRun};
-ghost use Rattle.ax_format.specs.Plain.{catalogue_tree};
+ghost use Rattle.ax_build_work.specs.BuildCommand.{command_of};
+ghost use Rattle.ax_lines.specs.Completing.{CompletesWhole};
+ghost use Rattle.ax_lines.specs.Runs.{LinesRunWhole};
 ghost use Rattle.ax_endpoints.specs.Changes.{sink_change, source_change};
 
 use crate::building::line_octets;
@@ -37,7 +35,7 @@ struct BuildWork<'c> {
 impl<'c> LineWork for BuildWork<'c> {
     type Fault = TextFault;
 
-    ghost command = { λ s. build_command (catalogue_tree s.items) };
+    ghost command = { λ s. command_of s.items };
 
     ghost sound = { λ s. (length s.room.items ≤ 2 ^ 20) × (s.tables ≡ s.items) };
 
@@ -69,8 +67,8 @@ pub fn build_lines<S: Source, K: Sink>(
     source: &mut S,
     out: &mut K,
 ) -> LinesEnd<TextFault>
-    ensures completes { Completes (build_command (catalogue_tree catalogue.now)) longest_line longest_input (source_change S.Source source.old source.new) (sink_change K.Sink out.old out.new) result }
-    ensures runs { LinesRun (build_command (catalogue_tree catalogue.now)) longest_line longest_input (source_change S.Source source.old source.new) (sink_change K.Sink out.old out.new) result }
+    ensures completes { CompletesWhole (command_of catalogue.now) (source_change S.Source source.old source.new) (sink_change K.Sink out.old out.new) result }
+    ensures runs { LinesRunWhole (command_of catalogue.now) (source_change S.Source source.old source.new) (sink_change K.Sink out.old out.new) result }
 {
     let Ok(items) = items_of(alloc, catalogue) else {
         return LinesEnd::OutOfMemory;

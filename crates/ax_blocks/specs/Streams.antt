@@ -1,20 +1,20 @@
 -- What a block command does over an input: the answer, where nothing outside fails and memory is there; and what stands where
 -- the run stops before that.
-use Rattle.std.specs.Prelude.{◌≡◌, ℕ, ◌+◌, ◌<◌, ◌≤◌, ◌⊎◌, List, [], ◌++◌, length, Option, Some}
+use Rattle.std.specs.Prelude.{◌≡◌, ℕ, ◌+◌, ◌<◌, ◌≤◌, ◌⊎◌, Bool, IsTrue, List, [], ◌++◌, length, Option, Some}
 use Rattle.ax_bits.specs.Bits.{AreOctets}
-use Rattle.ax_blocks.specs.Reader.{octets_to_end, RanOut}
+use Rattle.ax_blocks.specs.Reader.{ReaderState, octets_to_end, RanOut}
 use Rattle.ax_blocks.specs.Taking.{Took, IsUnfinished}
 use Rattle.ax_format.specs.Blocks.{BlockTree, IsFramed, SpellsBlock, SpellsStream}
 use Rattle.ax_format.specs.Ends.{Ends, InputEnd, RawFails}
 use Rattle.ax_format.specs.Framing.{RawTree, FramingEnd}
-use Rattle.ax_endpoints.specs.Changes.{SourceChange, SinkChange, IsUntouched, Gains, GainsNothing, GainsWithPart}
+use Rattle.ax_endpoints.specs.Changes.{Changes, SourceChange, SinkChange, IsUntouched, Gains, GainsNothing, GainsWithPart}
 use Rattle.ax_endpoints.specs.Told.{Rose}
 use Rattle.ax_blocks.specs.Commands.{BlockCommand, gives, too_long, report_of, output_of, AreGiven}
 use Rattle.ax_format.specs.declared.fault.BodyCause.{BodyCause}
 use Rattle.ax_format.specs.declared.fault.BodyCause.TheVariants as Body
 use Rattle.ax_blocks.specs.declared.end.Cause.{Cause}
 use Rattle.ax_blocks.specs.declared.end.Cause.TheVariants.{EndsInHeader, BadLen, EndsInBlock, RunsOut, UndefinedSlot, PresenceTooLong, ExtensionPastEnd, BadExplicitLength}
-use Rattle.ax_blocks.specs.Ending.{stream_end, framing_end, refused_at, cause_of}
+use Rattle.ax_blocks.specs.Ending.{longest_input, stream_end, framing_end, refused_at, cause_of}
 use Rattle.ax_blocks.specs.declared.end.StreamEnd.{StreamEnd}
 use Rattle.ax_blocks.specs.declared.end.StreamEnd.TheVariants.{Done, Refused, InputTooLong, TooLong, ReadFault, WriteFault, ReportFault, OutOfMemory}
 
@@ -258,6 +258,14 @@ pub record StreamRuns (c : BlockCommand) (limit : ℕ) (i : SourceChange) (o r :
   pub out_later : o.faults ≤ o.faults'
   pub report_later : r.faults ≤ r.faults'
 
+-- of what a reader of that limit gives
+abbrev pub StreamRunsBy : BlockCommand → ReaderState → Changes → StreamEnd → Type 0
+StreamRunsBy c reader x e = StreamRuns c reader.limit x.source x.out x.report e
+
+-- of an input as long as any may be
+abbrev pub StreamRunsWhole : BlockCommand → Changes → StreamEnd → Type 0
+StreamRunsWhole c x e = StreamRuns c longest_input x.source x.out x.report e
+
 -- nothing was taken and nothing added, and no fault was counted
 pub record IsIdle (i : SourceChange) (o r : SinkChange) : Type 0 where
   pub untouched : IsUntouched i
@@ -266,3 +274,7 @@ pub record IsIdle (i : SourceChange) (o r : SinkChange) : Type 0 where
   pub source_quiet : i.faults' ≡ i.faults
   pub out_quiet : o.faults' ≡ o.faults
   pub report_quiet : r.faults' ≡ r.faults
+
+-- memory was wanting before anything was taken, but of a work that takes memory
+abbrev pub WantsMemory : Bool → Changes → StreamEnd → Type 0
+WantsMemory takes_memory x e = e ≡ OutOfMemory → IsTrue takes_memory ⊎ IsIdle x.source x.out x.report

@@ -1,10 +1,9 @@
 //! The loop over the blocks of an input, for every block command.
-ghost use Rattle.std.specs.Prelude.{◌≡◌, ℕ, List, [], None, Some, IsTrue};
-ghost use Rattle.ax_bits.specs.Bits.{AreOctets};
-ghost use Rattle.ax_endpoints.specs.Changes.{source_change, sink_change};
-ghost use Rattle.ax_blocks.specs.Remembering.{RemembersAll};
-ghost use Rattle.ax_blocks.specs.Streams.{StreamRuns, RunsOver};
-ghost use Rattle.ax_blocks.specs.declared.end.StreamEnd.TheVariants.{Done, OutOfMemory};
+ghost use Rattle.std.specs.Prelude.{◌≡◌, None, IsTrue};
+ghost use Rattle.ax_endpoints.specs.Changes.{changes_of};
+ghost use Rattle.ax_blocks.specs.Remembering.{Keeps, KeepsTold};
+ghost use Rattle.ax_blocks.specs.Streams.{StreamRunsBy};
+ghost use Rattle.ax_blocks.specs.declared.end.StreamEnd.TheVariants.{OutOfMemory};
 
 use crate::end::{StreamEnd, reader_end, work_end};
 use crate::reader::BlockReader;
@@ -22,12 +21,10 @@ pub fn drive_blocks<W: BlockWork, S: Source, K: Sink, R: Sink>(
 ) -> StreamEnd
     requires fresh { reader.old ≡ record { limit = reader.old.limit; given = 0; ended = None } }
     requires sound { W.sound work.old }
-    ensures runs { StreamRuns (W.command work.old) reader.old.limit (source_change S.Source source.old source.new) (sink_change K.Sink out.old out.new) (sink_change R.Sink report.old report.new) result }
+    ensures runs { StreamRunsBy (W.command work.old) reader.old (changes_of S.Source K.Sink R.Sink source.old source.new out.old out.new report.old report.new) result }
     ensures memory { result ≡ OutOfMemory → IsTrue W.takes_memory }
-    ensures remembers { (input : List ℕ) (blocks : ℕ) → AreOctets input → S.left source.old ≡ Some input → W.remembers work.old work.old [] → result ≡ Done blocks → RemembersAll (W.remembers work.old work.new) reader.old.limit input }
-    ensures remembers_taken { W.remembers work.old work.old [] → RunsOver (W.command work.old) reader.old.limit
-        (source_change S.Source source.old source.new) (sink_change K.Sink out.old out.new) (sink_change R.Sink report.old report.new) result
-        (λ octets. (blocks : ℕ) → result ≡ Done blocks → RemembersAll (W.remembers work.old work.new) reader.old.limit octets) }
+    ensures remembers { KeepsTold W.BlockWork work.old work.new reader.old (S.left source.old) result }
+    ensures remembers_taken { Keeps W.BlockWork work.old work.new reader.old (changes_of S.Source K.Sink R.Sink source.old source.new out.old out.new report.old report.new) result }
 {
     // Read for its range: there are fewer blocks than octets, so they can be counted.
     let _limit = reader.limit();

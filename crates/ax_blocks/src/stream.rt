@@ -1,9 +1,6 @@
 //! A block command over a stream.
-ghost use Rattle.std.specs.Prelude.{◌≡◌, ◌⊎◌, IsTrue};
-ghost use Rattle.ax_endpoints.specs.Changes.{source_change, sink_change};
-ghost use Rattle.ax_blocks.specs.Ending.{longest_input};
-ghost use Rattle.ax_blocks.specs.Streams.{StreamRuns, IsIdle};
-ghost use Rattle.ax_blocks.specs.declared.end.StreamEnd.TheVariants.{OutOfMemory};
+ghost use Rattle.ax_endpoints.specs.Changes.{changes_of};
+ghost use Rattle.ax_blocks.specs.Streams.{StreamRunsWhole, WantsMemory};
 
 use crate::driving::drive_blocks;
 use crate::end::StreamEnd;
@@ -21,9 +18,8 @@ pub fn run_blocks<W: BlockWork, S: Source, K: Sink, R: Sink>(
     report: &mut R,
 ) -> StreamEnd
     requires sound { W.sound work.old }
-    ensures runs { StreamRuns (W.command work.old) longest_input (source_change S.Source source.old source.new) (sink_change K.Sink out.old out.new) (sink_change R.Sink report.old report.new) result }
-    ensures memory { result ≡ OutOfMemory → IsTrue W.takes_memory
-        ⊎ IsIdle (source_change S.Source source.old source.new) (sink_change K.Sink out.old out.new) (sink_change R.Sink report.old report.new) }
+    ensures runs { StreamRunsWhole (W.command work.old) (changes_of S.Source K.Sink R.Sink source.old source.new out.old out.new report.old report.new) result }
+    ensures memory { WantsMemory W.takes_memory (changes_of S.Source K.Sink R.Sink source.old source.new out.old out.new report.old report.new) result }
 {
     let Ok(mut reader) = BlockReader::new(alloc, LONGEST_INPUT) else {
         return StreamEnd::OutOfMemory;

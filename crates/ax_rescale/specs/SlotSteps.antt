@@ -1,8 +1,10 @@
 -- What one slot of two compounds does to entries that are converted.
-use Rattle.std.specs.Prelude.{◌≡◌, ℕ, ◌+◌, ◌≤◌, ◌==◌, MatchBool, List, [], ◌∷◌, ◌++◌, length}
-use Rattle.ax_format.specs.Plain.{entry_tree}
+use Rattle.std.specs.Prelude.{◌≡◌, ℕ, ◌+◌, ◌≤◌, ◌==◌, MatchBool, List, [], ◌∷◌, ◌++◌, length, Option, MatchOption}
+use Rattle.std.specs.Borrow.{Bor}
+use Rattle.ax_format.specs.Plain.{slot_tree, entry_tree, entries_tree}
 use Rattle.ax_format.specs.Shape.{Shape, EntriesShape}
 use Rattle.ax_format.specs.Tree.{SlotTree, subitem, SlotsTree, slot_and, EntriesTree, entry_and}
+use Rattle.ax_format.specs.declared.kind.Slot.{Slot}
 use Rattle.ax_format.specs.declared.value.Entry.{Entry}
 use Rattle.ax_rescale.specs.Converted.{EntriesConverted}
 
@@ -28,3 +30,8 @@ pub record SlotStep (s : ℕ) (old new : SlotTree) (es left : EntriesTree) (made
 -- no entries are made of these, whatever the later slots are
 abbrev pub NoSlotStep : ℕ → SlotTree → SlotTree → EntriesTree → Type 0
 NoSlotStep s old new es = (ss ts : SlotsTree) (x : EntriesTree) → EntriesConverted s (slot_and old ss) (slot_and new ts) es x → ⊥
+
+-- the entries left where these slots of that number convert the first ones, or none where they make nothing of them
+abbrev pub ConvertsSlot : ℕ → Slot → Slot → List Entry → Option (Bor (List Entry)) → List Entry → List Entry → Type 0
+ConvertsSlot s old new es left made now =
+    MatchOption left (NoSlotStep s (slot_tree old) (slot_tree new) (entries_tree es)) (λ rest. SlotStep s (slot_tree old) (slot_tree new) (entries_tree es) (entries_tree rest.now) made now)

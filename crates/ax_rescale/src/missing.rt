@@ -1,7 +1,7 @@
 //! What a record's conversion misses.
 ghost use Rattle.std.specs.Prelude.{◌≡◌, ◌++◌, ◌∷◌, [], length, OnOk};
 ghost use Rattle.ax_format.specs.Plain.{entries_tree, value_tree};
-ghost use Rattle.ax_rescale.specs.Under.{IsWatching, misses_under};
+ghost use Rattle.ax_rescale.specs.Under.{IsWatching, misses_of};
 ghost use Rattle.ax_rescale.specs.Watching.{stands, watch_miss, watch_missed};
 
 use crate::converter::Converter;
@@ -70,7 +70,7 @@ pub(crate) fn miss_record(
 ) -> Result<(), AllocError>
     requires watched { IsWatching converter.now }
     requires all { length converter.now.watches ≡ length converter.now.relation.now.paths }
-    ensures { OnOk result (misses.new ≡ misses.old ++ misses_under converter.now one.entry.number (entries_tree one.entry.entries.now) (entries_tree one.entry.made.now)) }
+    ensures { OnOk result (misses.new ≡ misses.old ++ misses_of converter.now one.entry) }
 {
     let watches = converter.watches.as_slice();
     let mut at: usize = 0;

@@ -1,11 +1,11 @@
 //! A value of one kind as the value of another to which it is converted.
-ghost use Rattle.std.specs.Prelude.{◌<◌, length, IfOk, MatchOption};
+ghost use Rattle.std.specs.Prelude.{◌<◌, length, IfOk};
 ghost use Rattle.ax_format.specs.Plain.{fixed_tree, kind_tree, slot_tree, slots_tree, value_tree, values_tree, entries_tree};
 ghost use Rattle.ax_format.specs.Shape.{FixedShape, EachShape, Shape, EntriesShape};
 ghost use Rattle.ax_rescale.specs.Converted.{FixedConverted, EachConverted, Converted, EntriesConverted};
 ghost use Rattle.ax_rescale.specs.Makes.{IfMade, IfNotMade};
 ghost use Rattle.ax_rescale.specs.Scales.{FixedScaled, Scaled, SlotScaled, SlotsScaled};
-ghost use Rattle.ax_rescale.specs.SlotSteps.{SlotShape, SlotStep, NoSlotStep};
+ghost use Rattle.ax_rescale.specs.SlotSteps.{ConvertsSlot, SlotShape};
 
 use crate::fixed_values::convert_fixed;
 use ax_format::{Entries, Entry, Fixed, Kind, Slot, Slots, Value, Values};
@@ -167,9 +167,7 @@ fn convert_slot<'e>(
     requires new { SlotScaled (slot_tree slots.new.now) }
     requires shape { SlotShape slots.number (slot_tree slots.old.now) (entries_tree entries.now) }
     requires room { length made.old < 4294967295 }
-    ensures { IfOk result (λ left. MatchOption left
-        (NoSlotStep slots.entry.number (slot_tree slots.entry.old.now) (slot_tree slots.entry.new.now) (entries_tree entries.now))
-        (λ rest. SlotStep slots.entry.number (slot_tree slots.entry.old.now) (slot_tree slots.entry.new.now) (entries_tree entries.now) (entries_tree rest.now) made.old made.new)) }
+    ensures { IfOk result (λ left. ConvertsSlot slots.entry.number slots.entry.old.now slots.entry.new.now entries.now left made.old made.new) }
 {
     match (slots.old, slots.new) {
         (Slot::Spare, Slot::Spare) => Ok(Some(entries)),

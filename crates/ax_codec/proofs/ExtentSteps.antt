@@ -9,6 +9,7 @@ use Rattle.ax_format.specs.declared.kind.Counter.TheVariants.{One}
 use Rattle.ax_format.specs.declared.kind.LastPart.{LastPart}
 use Rattle.ax_codec.proofs.Tables.{kind_means, kind_right, link_right, link_means}
 use Rattle.ax_codec.proofs.Growing.{links_far, slot_links_far}
+use Rattle.ax_codec.proofs.NodeOctets.{node_there}
 use Rattle.ax_codec.specs.Extents.{AreExtents, counted_extent, kind_extent, leading_octets, parts_extent, octets_extent, occurrences_extent, whole_octets}
 use Rattle.ax_codec.specs.Meaning.{Meaning, kind_of, linked, linked_part, linked_parts, meaning, meanings}
 use Rattle.ax_codec.specs.Octets.{octets_of}
@@ -97,16 +98,6 @@ occurrences_of n all (Of.Counted size link) h = refl
 occurrences_of n all (Of.ByFx link) h = refl
 occurrences_of n all Of.Explicit h = refl
 occurrences_of n all (Of.Compound mask links) h = refl
-
-record NodeThere (ns : List Node) (i : ℕ) : Type 0 where
-  one : Node
-  at : one ≡ get_or ns i one
-  octets : get_or (map octets_of ns) i 0 ≡ octets_of one
-
-node_there : (ns : List Node) (i : ℕ) → i < length ns → NodeThere ns i
-node_there [] i lt = absurd (omega arith)
-node_there (n ∷ ns) zero lt = record { one = n; at = refl; octets = refl }
-node_there (n ∷ ns) (suc i) lt = let t = node_there ns i (omega arith) in record { one = t.one; at = t.at; octets = t.octets }
 
 module _ (ns : List Node) (octets : List ℕ) (counter : Counter) (link count : ℕ) (table : IsTable ns) (are : octets ≡ map octets_of ns) (some : 0 < link) (within : link ≤ length ns) (is : counter ≡ One) (at : count ≡ get_or octets (link - 1) 0) where
   counted_is : octets_extent count ≡ counted_extent counter (kind_of (linked (meanings ns) link))

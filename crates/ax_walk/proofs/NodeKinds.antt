@@ -1,5 +1,5 @@
 -- The kind that a link stands for, by the node that it leads to.
-use Rattle.std.proofs.Common.{◌≡◌, ℕ, zero, suc, ◌+◌, ◌-◌, ◌*◌, ◌/◌, ◌%◌, ◌==◌, ◌<◌, ◌≤◌, true, false, cond, map, Bool, Option, Some, None, IfSome, IfNone, List, [], ◌∷◌, length, drop, get_or, refl, sym, ◌∙◌, ap, arith, subst}
+use Rattle.std.proofs.Common.{◌≡◌, ℕ, ◌+◌, ◌-◌, ◌*◌, ◌/◌, ◌%◌, ◌==◌, ◌<◌, ◌≤◌, true, false, cond, map, Bool, Option, Some, None, IfSome, IfNone, List, [], ◌∷◌, length, drop, get_or, refl, sym, ◌∙◌, ap, arith, subst}
 use Rattle.std.proofs.lemmas.Bool.{eqb-true}
 use Rattle.ax_bits.specs.Bits.{bits}
 use Rattle.ax_format.specs.Reader.{fixed_value}
@@ -13,6 +13,7 @@ use Rattle.ax_format.specs.declared.fault.BodyFault.{BodyFault}
 use Rattle.ax_fspec.specs.declared.mask.SlotMask.{SlotMask}
 use Rattle.ax_format.specs.declared.kind.Counter.{Counter}
 use Rattle.ax_format.specs.declared.kind.LastPart.{LastPart}
+use Rattle.ax_codec.proofs.NodeOctets.{node_there}
 use Rattle.ax_codec.proofs.Tables.{kind_means, kind_right}
 use Rattle.ax_codec.specs.Octets.{octets_of}
 use Rattle.ax_codec.specs.Meaning.{meanings, linked, fixed_of, linked_members, linked_parts, linked_slots}
@@ -118,16 +119,6 @@ module _ (ns : List Node) (link : ℕ) (one : Node) (table : IsTable ns) (some :
       let same : greatest found ≡ greatest links = ap greatest f in omega arith
 
 -- ---- the octets that stand beside the nodes
-
-record NodeThere (ns : List Node) (i : ℕ) : Type 0 where
-  one : Node
-  at : one ≡ get_or ns i one
-  octets : get_or (map octets_of ns) i 0 ≡ octets_of one
-
-node_there : (ns : List Node) (i : ℕ) → i < length ns → NodeThere ns i
-node_there [] i lt = absurd (omega arith)
-node_there (n ∷ ns) zero lt = record { one = n; at = refl; octets = refl }
-node_there (n ∷ ns) (suc i) lt = let t = node_there ns i (omega arith) in record { one = t.one; at = t.at; octets = t.octets }
 
 pub whole_of : (w n : ℕ) (b : Bool) → (w % 8 == 0) ≡ b → cond b (w / 8) 0 ≡ n → 0 < n → w ≡ 8 * n
 whole_of w n true e h some = omega (arith, eqb-true (w % 8) 0 e)

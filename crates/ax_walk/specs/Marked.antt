@@ -29,11 +29,11 @@ use Rattle.ax_walk.specs.declared.places.Places.{Places}
 use Rattle.ax_walk.specs.declared.places.Window.{Window}
 use Rattle.ax_walk.specs.declared.start.Field.{Field}
 use Rattle.ax_walk.specs.declared.start.Start.{Start}
-use Rattle.ax_walk.specs.declared.table.Slots.{Slots}
+use Rattle.ax_walk.specs.declared.table.LinkedSlots.{LinkedSlots}
 use Rattle.ax_walk.specs.declared.table.Table.{Table}
 
 -- the kind of the values of these slots
-abbrev pub slots_kind : Slots → KindTree
+abbrev pub slots_kind : LinkedSlots → KindTree
 slots_kind slots = record_kind_at slots.table.nodes.now slots.links.now
 
 -- ---- entries
@@ -68,7 +68,7 @@ abbrev pub StandsFound : List Node → List ℕ → List ℕ → Start → ℕ �
 StandsFound nodes links marks start slot found = IsGot (entries_from nodes links marks start) → IfSome found (λ item. FollowsFound nodes links marks start slot item.body.now)
 
 -- they are read up to octet `end`, and stand where the places say
-abbrev pub PlacesMarked : Slots → Start → Places → ℕ → Type 0
+abbrev pub PlacesMarked : LinkedSlots → Start → Places → ℕ → Type 0
 PlacesMarked slots start places end = PlacesEntries slots.table.nodes.now slots.links.now places.marked start.body.now start.at places.windows end
 
 -- the value of a slot in a window of the body
@@ -86,16 +86,16 @@ abbrev pub AreRowsAt : Table → ℕ → Rows → Type 0
 AreRowsAt table link rows = AreRows table.octets.now (slots_under table.nodes.now link) rows.start.now rows.steps.now
 
 -- each octet of the presence field has a row
-abbrev pub FieldHasRows : Slots → Field → Type 0
+abbrev pub FieldHasRows : LinkedSlots → Field → Type 0
 FieldHasRows slots field = HaveRows slots.table.octets.now slots.links.now field.start.body.now field.start.at field.octets
 
 -- behind the values of the slots that a presence octet marks stand those of the slots after them
-abbrev pub RowLeads : Slots → ℕ → ℕ → Start → ℕ → Bool → Type 0
+abbrev pub RowLeads : LinkedSlots → ℕ → ℕ → Start → ℕ → Bool → Type 0
 RowLeads slots index marks start end least =
     (s : ℕ) (more : List ℕ) → SlotsLead slots.table.nodes.now start.body.now s (slots_at index slots.links.now) (seven marks ++ more) start.at (s + 7) (drop 7 (slots_at index slots.links.now)) more end least
 
 -- behind those of the slots that a presence field marks stand those of the slots after them
-abbrev pub RowsLead : Slots → Field → ℕ → Bool → Type 0
+abbrev pub RowsLead : LinkedSlots → Field → ℕ → Bool → Type 0
 RowsLead slots field end least =
     (more : List ℕ) → SlotsLead slots.table.nodes.now field.start.body.now 1 slots.links.now (marks_of (take field.octets (drop field.start.at field.start.body.now)) ++ more) (field.start.at + field.octets) (7 * field.octets + 1) (slots_at field.octets slots.links.now) more end least
 

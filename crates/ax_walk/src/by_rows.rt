@@ -13,7 +13,7 @@ use crate::octets::note_field;
 use crate::record::Walked;
 use crate::record_rows::RowWalk;
 use crate::start::{Field, Start, are_octets};
-use crate::table::Slots;
+use crate::table::LinkedSlots;
 use crate::value_walk::ValueWalk;
 use ax_codec::Codec;
 use ax_rows::{NO_ROW, Rows, Step};
@@ -32,7 +32,7 @@ struct Row<'r> {
 #[inline(always)]
 fn walk_row<W: ValueWalk>(
     values: &W,
-    slots: Slots<'_>,
+    slots: LinkedSlots<'_>,
     row: Row<'_>,
     start: Start<'_>,
     notes: &mut Notes,
@@ -66,7 +66,7 @@ fn walk_row<W: ValueWalk>(
 #[inline(always)]
 fn walk_rows<W: ValueWalk>(
     values: &W,
-    slots: Slots<'_>,
+    slots: LinkedSlots<'_>,
     rows: Rows<'_>,
     field: Field<'_>,
     notes: &mut Notes,
@@ -124,7 +124,7 @@ pub(crate) fn field_octets(start: Start<'_>, slots: u32) -> Option<u32>
 #[inline(always)]
 pub(crate) fn walk_by_rows<W: ValueWalk>(
     values: &W,
-    slots: Slots<'_>,
+    slots: LinkedSlots<'_>,
     rows: Rows<'_>,
     start: Start<'_>,
     notes: &mut Notes,
@@ -155,7 +155,7 @@ pub fn items_by_rows(codec: &Codec, body: &[u8], at: u32, notes: &mut Notes) -> 
     requires at { at ≤ length body.now }
     ensures { IfSome result (λ end. WalksItems codec.now body.now at end notes.new.least) }
 {
-    let slots = Slots::of(codec);
+    let slots = LinkedSlots::of(codec);
     let by = RowWalk::of(codec)?;
     let start = Start { body, at };
     let octets = field_octets(start, codec.mask.count)?;

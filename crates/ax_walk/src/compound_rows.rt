@@ -14,7 +14,7 @@ use crate::extents::extent_end;
 use crate::notes::Notes;
 use crate::octets::{note_field, octets_end, walk_node};
 use crate::start::{Start, are_octets};
-use crate::table::{Slots, Table};
+use crate::table::{LinkedSlots, Table};
 use crate::value_walk::{ByNodes, ValueWalk};
 use ax_codec::{Codec, Extent, Node};
 use ax_rows::{NO_ROW, Rows, SlotRows};
@@ -91,7 +91,7 @@ fn skip_compound(
 /// records it would take their registers; as it isn't, the body and the octet are passed by themselves, not through memory.
 #[inline(never)]
 fn walk_subitems(
-    slots: Slots<'_>,
+    slots: LinkedSlots<'_>,
     rows: Rows<'_>,
     body: &[u8],
     at: u32,
@@ -126,7 +126,7 @@ fn step_compound(
         return None;
     };
     let links = slots.as_slice();
-    let slots = Slots { table, mask, links };
+    let slots = LinkedSlots { table, mask, links };
     walk_subitems(slots, rows, start.body, start.at, notes)
 }
 

@@ -16,7 +16,7 @@ use crate::notes::{Notes, fail};
 use crate::record::Walked;
 use crate::record_rows::RecordRows;
 use crate::start::{Start, are_octets};
-use crate::table::{Slots, Table};
+use crate::table::{LinkedSlots, Table};
 use crate::units::{first_part_end, run, walk_explicit, walk_parts, walk_run};
 use ax_codec::{Codec, Node};
 use ax_format::{BodyCause, Counter, LastPart};
@@ -62,7 +62,7 @@ pub(crate) fn walk_with(
 
 /// The octet after a record of these slots. Inlined into the loops over records it would take their registers.
 #[inline(never)]
-fn walk_slots(slots: Slots<'_>, start: Start<'_>, notes: &mut Notes) -> Option<u32>
+fn walk_slots(slots: LinkedSlots<'_>, start: Start<'_>, notes: &mut Notes) -> Option<u32>
     ensures end { IfSome result (λ end. WalksFrom (slots_kind slots.entry) start.entry end notes.new.least) }
     ensures fault { IfNone result (FailsFrom (slots_kind slots.entry) start.entry notes.new.fault) }
     ensures falls { IsTrue notes.new.least → IsTrue notes.old.least }
@@ -85,7 +85,7 @@ fn walk_slots(slots: Slots<'_>, start: Start<'_>, notes: &mut Notes) -> Option<u
 /// The octet after the items of the marked slots, of which the first begins at the start.
 #[inline]
 fn walk_items(
-    slots: Slots<'_>,
+    slots: LinkedSlots<'_>,
     marked: Presence,
     start: Start<'_>,
     notes: &mut Notes,

@@ -13,7 +13,7 @@ use crate::item::ItemView;
 use crate::notes::Notes;
 use crate::places::{Places, Window};
 use crate::start::{Start, are_octets};
-use crate::table::{Slots, Table};
+use crate::table::{LinkedSlots, Table};
 use ax_codec::{Codec, Node};
 use ax_fspec::{Presence, read_presence};
 use ax_rows::SlotRows;
@@ -34,7 +34,7 @@ pub fn place_record(
 {
     let compounds = codec.nodes.compound_rows();
     place_slots(
-        Slots::of(codec),
+        LinkedSlots::of(codec),
         compounds,
         Start { body, at },
         notes,
@@ -45,7 +45,7 @@ pub fn place_record(
 /// The octet after a record, or a compound, of these slots, and where their values stand.
 #[inline]
 fn place_slots(
-    slots: Slots<'_>,
+    slots: LinkedSlots<'_>,
     compounds: &[SlotRows],
     start: Start<'_>,
     notes: &mut Notes,
@@ -73,7 +73,7 @@ fn place_slots(
 /// The octet after the values of the marked slots, of which the first begins at the start, and where each stands.
 #[inline]
 fn place_items(
-    slots: Slots<'_>,
+    slots: LinkedSlots<'_>,
     compounds: &[SlotRows],
     start: Start<'_>,
     notes: &mut Notes,
@@ -113,7 +113,7 @@ pub fn place_subitems(item: &ItemView<'_, '_>, places: &mut Places)
         let table = Table::of(item.codec);
         let links = slots.as_slice();
         let compounds = item.codec.nodes.compound_rows();
-        let subitems = Slots { table, mask, links };
+        let subitems = LinkedSlots { table, mask, links };
         let start = Start {
             body: item.body,
             at: 0,

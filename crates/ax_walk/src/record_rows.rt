@@ -3,7 +3,7 @@ ghost use Rattle.std.specs.Prelude.{◌≡◌, IfSome};
 ghost use Rattle.ax_walk.specs.RecordRows.{AreRecordRows, AreRowsOfCodec};
 
 use crate::compound_rows::ByRows;
-use crate::table::Slots;
+use crate::table::LinkedSlots;
 use ax_codec::Codec;
 use ax_rows::Rows;
 
@@ -30,7 +30,7 @@ impl<'c> RowWalk<'c> {
 #[derive(Clone, Copy)]
 pub struct RecordRows<'c> {
     pub codec: &'c Codec,
-    pub(crate) slots: Slots<'c>,
+    pub(crate) slots: LinkedSlots<'c>,
     pub(crate) by_rows: Option<RowWalk<'c>>,
 }
 
@@ -42,7 +42,7 @@ impl<'c> RecordRows<'c> {
     {
         RecordRows {
             codec,
-            slots: Slots::of(codec),
+            slots: LinkedSlots::of(codec),
             by_rows: RowWalk::of(codec),
         }
     }

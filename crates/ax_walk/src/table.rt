@@ -19,7 +19,7 @@ pub(crate) struct Table<'c> {
 /// The slots of a record or of a compound, in their table: the mask has those that aren't spare, and each of these has the link
 /// of its node; 0 is that of a spare one.
 #[derive(Clone, Copy)]
-pub(crate) struct Slots<'c> {
+pub(crate) struct LinkedSlots<'c> {
     pub(crate) table: Table<'c>,
     pub(crate) mask: &'c SlotMask,
     pub(crate) links: &'c [u32],
@@ -39,15 +39,15 @@ impl<'c> Table<'c> {
     }
 }
 
-impl<'c> Slots<'c> {
+impl<'c> LinkedSlots<'c> {
     /// Those of a codec's records.
     #[inline(always)]
-    pub(crate) fn of(codec: &'c Codec) -> Slots<'c>
+    pub(crate) fn of(codec: &'c Codec) -> LinkedSlots<'c>
         ensures nodes { result.table.nodes.now ≡ codec.now.nodes }
         ensures mask { result.mask.now ≡ codec.now.mask }
         ensures links { result.links.now ≡ codec.now.slots }
     {
-        Slots {
+        LinkedSlots {
             table: Table::of(codec),
             mask: &codec.mask,
             links: codec.slots.as_slice(),

@@ -1,12 +1,11 @@
 //! Records and lists of them.
-ghost use Rattle.std.specs.Prelude.{◌≡◌, ◌<◌, ◌≤◌, ◌∷◌, [], length, map, Some, IfOk, IfErr, OnOk, MatchOption};
+ghost use Rattle.std.specs.Prelude.{◌≡◌, ◌<◌, ◌≤◌, [], length, map, Some, IfOk, IfErr, OnOk};
 ghost use Rattle.ax_format.specs.Lookup.{item_of_frn, item_of_slot};
-ghost use Rattle.ax_format.specs.Plain.{item_tree, kind_tree, spec_tree};
+ghost use Rattle.ax_format.specs.Plain.{item_tree, spec_tree};
 ghost use Rattle.ax_format.specs.Specification.{uap_slot, record_slots};
-ghost use Rattle.ax_format.specs.Tree.{subitem};
 ghost use Rattle.ax_tokens.specs.declared.stopped.Stopped.TheVariants.{Bad};
 ghost use Rattle.ax_text_form.specs.Readable.{SlotReadable, SlotsReadable};
-ghost use Rattle.ax_block_reader.specs.Entries.{SlotNamed, IsNotNamed, GivesSlot};
+ghost use Rattle.ax_block_reader.specs.Entries.{SlotNamed, ReadsName, GivesSlot};
 ghost use Rattle.ax_block_reader.specs.Readings.{GivesEntries, GivesBracedEntries, GivesRecord, GivesRecords, GivesBracedRecords};
 
 use crate::kinds::kind_value;
@@ -24,9 +23,7 @@ fn item_that_comes<'s>(
     slot: &UapSlot,
 ) -> Result<Option<&'s Item>, Stopped>
     requires { item_of_frn frn items.now.spec.now.uap items.now.spec.now.items ≡ item_of_slot (Some slot.now) items.now.spec.now.items }
-    ensures found { IfOk result (λ found. MatchOption found
-        ((reader.new ≡ reader.old) × IsNotNamed (uap_slot (map item_tree items.now.spec.now.items) slot.now) reader.old)
-        (λ item. (uap_slot (map item_tree items.now.spec.now.items) slot.now ≡ subitem item.now.name (kind_tree item.now.kind)) × (reader.old ≡ item.now.name ∷ reader.new))) }
+    ensures found { IfOk result (λ found. ReadsName (uap_slot (map item_tree items.now.spec.now.items) slot.now) found reader.old reader.new) }
     ensures end { IfErr result (λ e. (e ≡ Bad) × (reader.old ≡ []) × (reader.new ≡ [])) }
     ensures named { SlotNamed (uap_slot (map item_tree items.now.spec.now.items) slot.now) }
 {

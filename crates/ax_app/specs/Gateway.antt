@@ -7,9 +7,11 @@ use Rattle.ax_command.specs.declared.outcome.Outcome.TheVariants.{Done, Usage, O
 use Rattle.ax_endpoints.specs.Changes.{LibraryCounts, library_counts, IsUntouched, GainsNothing}
 use Rattle.ax_endpoints.specs.Files.{File}
 use Rattle.ax_endpoints.specs.declared.libraries.Library as LibraryOf
+use Rattle.ax_endpoints.specs.declared.sinks.Sink as SinkOf
+use Rattle.ax_endpoints.specs.declared.sources.Source as SourceOf
 use Rattle.ax_words.specs.Words.{HasShape, HasNoShape}
 use Rattle.ax_words.specs.declared.line.Line.{Line}
-use Rattle.ax_app.specs.Channels.{Changes}
+use Rattle.ax_app.specs.Channels.{Changes, changes_of}
 use Rattle.ax_app.specs.Completing.{NoFaultCounted, HasWhole, IsDoneWith}
 use Rattle.ax_app.specs.Counting.{LoadsAll, CountsOnly}
 use Rattle.ax_app.specs.Given.{Given, LineGives}
@@ -78,3 +80,8 @@ pub record IsRun (words : List (List ℕ)) (w : Outside) (outcome : Outcome) : T
   pub completes : (files : List File) (input : List ℕ) (job : CommandJob) (count : ℕ) (written reported : List ℕ) → AreOctets input → w.files ≡ Some files → w.io.source.left ≡ Some input
       → NoFaultCounted w.library w.io.source w.io.out w.io.report → Does words (Some files) job → HasWhole job input count written reported
       → IsDoneWith outcome count w.io.out w.io.report written reported
+
+-- of these words, over a library, a source and two sinks, each before and after
+abbrev pub IsRunOf : {L S K R Z : Type 0} → LibraryOf.Ghosts L → SourceOf.Ghosts S → SinkOf.Ghosts K → SinkOf.Ghosts R → List (String Z) → L → L → S → S → K → K → R → R → Outcome → Type 0
+IsRunOf library_ghosts source_ghosts out_ghosts report_ghosts words library library' source source' out out' report report' outcome =
+    IsRun (texts words) (outside library_ghosts library library' (changes_of source_ghosts out_ghosts report_ghosts source source' out out' report report')) outcome

@@ -1,8 +1,8 @@
 //! The top call.
 ghost use Rattle.std.specs.Prelude.{◌≡◌};
 ghost use Rattle.ax_words.specs.Words.{IsInBounds};
-ghost use Rattle.ax_app.specs.Channels.{changes, changes_of};
-ghost use Rattle.ax_app.specs.Gateway.{IsRun, Obeys, ObeysLine, ObeysLoaded, outside, texts};
+ghost use Rattle.ax_app.specs.Channels.{changes};
+ghost use Rattle.ax_app.specs.Gateway.{IsRunOf, Obeys, ObeysLine, ObeysLoaded, outside, texts};
 ghost use Rattle.ax_app.specs.Jobs.{IsReady};
 ghost use Rattle.ax_app.specs.Loaded.{given_of, IsLoadedFor};
 
@@ -78,8 +78,8 @@ pub fn run<L: Library, S: Source, K: Sink, R: Sink>(
     out: &mut K,
     report: &mut R,
 ) -> Outcome
-    ensures run { IsRun (texts words.now.items) (outside L.Library library.old library.new
-        (changes_of S.Source K.Sink R.Sink source.old source.new out.old out.new report.old report.new)) result }
+    ensures run { IsRunOf L.Library S.Source K.Sink R.Sink words.now.items
+        library.old library.new source.old source.new out.old out.new report.old report.new result }
     ensures keeps { L.files library.new ≡ L.files library.old }
 {
     let io = Channels {

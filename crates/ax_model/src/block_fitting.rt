@@ -1,11 +1,9 @@
 //! Whether a block fits a specification. Nothing here takes memory.
-ghost use Rattle.std.specs.Prelude.{◌≡◌, ◌+◌, ◌↔◌, MatchOption, IsTrue, false, map};
+ghost use Rattle.std.specs.Prelude.{◌≡◌, ◌↔◌, IsTrue, map};
 ghost use Rattle.std.specs.List.{list_all};
-ghost use Rattle.ax_format.specs.Fitting.{entries_fit};
-ghost use Rattle.ax_format.specs.OfCode.{BlockFits, record_fits};
-ghost use Rattle.ax_format.specs.Plain.{entries_tree, item_tree};
+ghost use Rattle.ax_format.specs.OfCode.{AreAfterSlot, BlockFits, record_fits};
+ghost use Rattle.ax_format.specs.Plain.{item_tree};
 ghost use Rattle.ax_format.specs.Specification.{uap_slot};
-ghost use Rattle.ax_format.specs.Tree.{SlotsTree, slot_and};
 
 use ax_format::{Block, Entry, Record, Spec, UapSlot, fits_kind};
 
@@ -16,9 +14,7 @@ fn after_slot<'e>(
     slot: &UapSlot,
     entries: &'e [Entry],
 ) -> Option<&'e [Entry]>
-    ensures { MatchOption result
-        ((ss : SlotsTree) → entries_fit number (slot_and (uap_slot (map item_tree spec.now.items) slot.now) ss) (entries_tree entries.now) ≡ false)
-        (λ rest. (ss : SlotsTree) → entries_fit number (slot_and (uap_slot (map item_tree spec.now.items) slot.now) ss) (entries_tree entries.now) ≡ entries_fit (number + 1) ss (entries_tree rest.now)) }
+    ensures { AreAfterSlot number (uap_slot (map item_tree spec.now.items) slot.now) entries.now result }
 {
     let Some((entry, later)) = entries.split_first() else {
         return Some(entries);

@@ -11,7 +11,7 @@ use Rattle.ax_lines.specs.Ending.{longest_line}
 use Rattle.ax_lines.specs.Runs.{LinesRun}
 use Rattle.ax_lines.specs.declared.end.LinesEnd.{LinesEnd}
 use Rattle.ax_format.specs.Specification.{SpecTree}
-use Rattle.ax_endpoints.specs.Changes.{SourceChange, SinkChange, GainsNothing}
+use Rattle.ax_endpoints.specs.Changes.{Changes, SourceChange, SinkChange, GainsNothing}
 use Rattle.ax_salvage.specs.Runs.{SalvageRuns}
 use Rattle.ax_salvage.specs.declared.salvaging.SalvageEnd.{SalvageEnd}
 use Rattle.ax_blocks.specs.Commands.{BlockCommand}
@@ -21,7 +21,6 @@ use Rattle.ax_blocks.specs.declared.end.StreamEnd.{StreamEnd}
 use Rattle.ax_words.specs.declared.line.Line.{Line}
 use Rattle.ax_words.specs.declared.line.Line.TheVariants.{Check, Build, Trial}
 use Rattle.ax_app.proofs.Memory.{was_idle, salvage_was_idle}
-use Rattle.ax_app.specs.Channels.{Changes}
 use Rattle.ax_app.specs.Commands.{RunsAs, RunsPrepared, RunsLine}
 use Rattle.ax_app.specs.Ends.{as_stream}
 use Rattle.ax_app.specs.Given.{Given, only}

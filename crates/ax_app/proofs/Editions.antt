@@ -11,8 +11,8 @@ use Rattle.ax_format.specs.declared.spec.Spec.{Spec}
 use Rattle.ax_blocks.specs.Commands.{BlockCommand}
 use Rattle.ax_words.specs.declared.line.Line.{Line}
 use Rattle.ax_words.specs.declared.line.Line.TheVariants.{Check, Canon, Show, Text, Build, Filter, Migrate, Trial, Salvage, Expand, Convert, Help, Version}
+use Rattle.ax_endpoints.specs.Changes.{Changes}
 use Rattle.ax_app.proofs.Commands.{prepared_line, takes_line}
-use Rattle.ax_app.specs.Channels.{Changes}
 use Rattle.ax_app.specs.Commands.{RunsAs, RunsPrepared, RunsLine}
 use Rattle.ax_app.specs.Given.{only, TakesEditions}
 use Rattle.ax_app.specs.Jobs.{CommandJob, each_block, refuses, IsJob, OverEditions, IsEditionsJob, answers_each, other_category}

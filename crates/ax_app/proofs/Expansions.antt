@@ -11,8 +11,8 @@ use Rattle.ax_format.specs.Specification.{SpecTree}
 use Rattle.ax_format.specs.declared.spec.Spec.{Spec}
 use Rattle.ax_words.specs.declared.line.Line.{Line}
 use Rattle.ax_words.specs.declared.line.Line.TheVariants.{Check, Canon, Show, Text, Build, Filter, Migrate, Trial, Salvage, Expand, Convert, Help, Version}
+use Rattle.ax_endpoints.specs.Changes.{Changes}
 use Rattle.ax_app.proofs.Commands.{takes_line}
-use Rattle.ax_app.specs.Channels.{Changes}
 use Rattle.ax_app.specs.Commands.{RunsAs, RunsLine, RunsExpand}
 use Rattle.ax_app.specs.Given.{Given, expansion_of}
 use Rattle.ax_app.specs.Jobs.{CommandJob, each_block, refuses, IsJob, ExpandsBy, IsExpandJob, expands, unused, of_another}

@@ -11,8 +11,8 @@ use Rattle.ax_expressions.specs.declared.stop.FilterStop.TheVariants.{Refused}
 use Rattle.ax_filter_work.specs.FilterCommand.{filter_command}
 use Rattle.ax_format.specs.Specification.{SpecTree}
 use Rattle.ax_words.specs.declared.line.Line.TheVariants.{Filter}
+use Rattle.ax_endpoints.specs.Changes.{Changes}
 use Rattle.ax_app.proofs.Commands.{prepared_line}
-use Rattle.ax_app.specs.Channels.{Changes}
 use Rattle.ax_app.specs.Commands.{RunsPrepared, RunsLine, RunsFilter}
 use Rattle.ax_app.specs.Given.{only}
 use Rattle.ax_app.specs.Jobs.{each_block, refuses, IsJob, filters, refused}

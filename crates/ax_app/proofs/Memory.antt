@@ -3,12 +3,11 @@ use Rattle.std.proofs.Common.{◌≡◌, ℕ, ◌⊎◌, inl, inr, List, sym, �
 use Rattle.ax_command.specs.Outcomes.{outcome_of_end}
 use Rattle.ax_command.specs.declared.outcome.Outcome.{Outcome}
 use Rattle.ax_command.specs.declared.outcome.Outcome.TheVariants.{OutOfMemory}
-use Rattle.ax_app.specs.Channels.{Changes}
 use Rattle.ax_app.specs.Ends.{as_stream}
 use Rattle.ax_app.specs.Gateway.{WantsMemory}
 use Rattle.ax_app.specs.declared.end.DriveEnd.{DriveEnd}
 use Rattle.ax_app.specs.declared.end.DriveEnd.TheVariants as EndOf
-use Rattle.ax_endpoints.specs.Changes.{IsUntouched, GainsNothing}
+use Rattle.ax_endpoints.specs.Changes.{Changes, IsUntouched, GainsNothing}
 use Rattle.ax_salvage.specs.declared.salvaging.SalvageEnd.{SalvageEnd}
 use Rattle.ax_salvage.specs.declared.salvaging.SalvageEnd.TheVariants as SalvageEndOf
 use Rattle.ax_words.specs.Words.{HasShape}

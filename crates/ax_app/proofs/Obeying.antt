@@ -5,12 +5,11 @@ use Rattle.ax_command.specs.declared.outcome.JobStop.{JobStop}
 use Rattle.ax_command.specs.declared.outcome.Outcome.{Outcome}
 use Rattle.ax_command.specs.declared.outcome.Outcome.TheVariants.{Usage, OutOfMemory}
 use Rattle.ax_load.specs.declared.fault.LoadStop.{LoadStop}
-use Rattle.ax_endpoints.specs.Changes.{IsUnasked}
+use Rattle.ax_endpoints.specs.Changes.{Changes, IsUnasked}
 use Rattle.ax_blocks.specs.Streams.{IsIdle}
 use Rattle.ax_words.specs.Words.{HasNoShape}
 use Rattle.ax_words.specs.declared.line.Line.{Line}
 use Rattle.ax_app.proofs.Memory.{asks}
-use Rattle.ax_app.specs.Channels.{Changes}
 use Rattle.ax_app.specs.Commands.{RunsLine}
 use Rattle.ax_app.specs.Counting.{LoadsAll, LoadsThrough}
 use Rattle.ax_app.specs.Gateway.{Outside, Obeys, ObeysLine, ObeysLoaded}

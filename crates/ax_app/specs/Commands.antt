@@ -13,7 +13,7 @@ use Rattle.ax_blocks.specs.Commands.{BlockCommand}
 use Rattle.ax_blocks.specs.Streams.{IsIdle}
 use Rattle.ax_words.specs.declared.line.Line.{Line}
 use Rattle.ax_words.specs.declared.line.Line.TheVariants.{Filter, Expand}
-use Rattle.ax_app.specs.Channels.{Changes}
+use Rattle.ax_endpoints.specs.Changes.{Changes}
 use Rattle.ax_app.specs.Given.{Given, only}
 use Rattle.ax_app.specs.Jobs.{CommandJob, each_block, JobRuns, RunsJob, IsStopped}
 use Rattle.ax_app.specs.Loaded.{with_expansion}

@@ -4,14 +4,13 @@ use Rattle.ax_bits.specs.Bits.{AreOctets}
 use Rattle.ax_command.specs.Lines.{lines_of}
 use Rattle.ax_command.specs.declared.outcome.Outcome.{Outcome}
 use Rattle.ax_command.specs.declared.outcome.Outcome.TheVariants.{Done, Usage, OutOfMemory}
-use Rattle.ax_endpoints.specs.Changes.{LibraryCounts, library_counts, IsUntouched, GainsNothing}
+use Rattle.ax_endpoints.specs.Changes.{Changes, changes_of, LibraryCounts, library_counts, IsUntouched, GainsNothing}
 use Rattle.ax_endpoints.specs.Files.{File}
 use Rattle.ax_endpoints.specs.declared.libraries.Library as LibraryOf
 use Rattle.ax_endpoints.specs.declared.sinks.Sink as SinkOf
 use Rattle.ax_endpoints.specs.declared.sources.Source as SourceOf
 use Rattle.ax_words.specs.Words.{HasShape, HasNoShape}
 use Rattle.ax_words.specs.declared.line.Line.{Line}
-use Rattle.ax_app.specs.Channels.{Changes, changes_of}
 use Rattle.ax_app.specs.Completing.{NoFaultCounted, HasWhole, IsDoneWith}
 use Rattle.ax_app.specs.Counting.{LoadsAll, CountsOnly}
 use Rattle.ax_app.specs.Given.{Given, LineGives}

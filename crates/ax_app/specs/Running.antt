@@ -5,7 +5,7 @@ use Rattle.ax_command.specs.declared.outcome.JobStop.{JobStop}
 use Rattle.ax_command.specs.declared.outcome.Outcome.{Outcome}
 use Rattle.ax_command.specs.declared.outcome.Outcome.TheVariants.{Usage, OtherCategory, ExpansionUnused, FilterRefused, TextRefused, MigratedTooLong, ReadFault, WriteFault, ReportFault, InputTooLong, OutOfMemory}
 use Rattle.ax_load.specs.declared.fault.LoadStop.{LoadStop}
-use Rattle.ax_endpoints.specs.Changes.{LibraryCounts, SourceChange, SinkChange, IsUntouched, IsUnasked, first_step, second_step, Gains, GainsNothing, GainsPart}
+use Rattle.ax_endpoints.specs.Changes.{Changes, LibraryCounts, SourceChange, SinkChange, IsUntouched, IsUnasked, first_step, second_step, Gains, GainsNothing, GainsPart}
 use Rattle.ax_endpoints.specs.Files.{File}
 use Rattle.ax_endpoints.specs.Told.{Rose}
 use Rattle.ax_blocks.specs.Ending.{longest_input}
@@ -13,7 +13,6 @@ use Rattle.ax_blocks.specs.Streams.{IsIdle}
 use Rattle.ax_words.specs.Words.{HasShape, HasNoShape}
 use Rattle.ax_words.specs.declared.line.Line.{Line}
 use Rattle.ax_words.specs.declared.line.Line.TheVariants as LineOf
-use Rattle.ax_app.specs.Channels.{Changes}
 use Rattle.ax_app.specs.Counting.{LoadsAll, LoadsThrough}
 use Rattle.ax_app.specs.Given.{Given, LineGives, LineEnds}
 use Rattle.ax_app.specs.Jobs.{CommandJob, IsJob, IsStopped, JobRuns}

@@ -1,7 +1,6 @@
 -- What a work does, and what it relies on.
 use Rattle.std.specs.Prelude.{◌≡◌, ℕ, ◌≤◌, List, None, Some, length}
 use Rattle.ax_bits.specs.Bits.{AreOctets}
-use Rattle.ax_app.specs.Channels.{Changes}
 use Rattle.ax_app.specs.Ends.{as_stream}
 use Rattle.ax_app.specs.declared.end.DriveEnd.{DriveEnd}
 use Rattle.ax_app.specs.declared.end.DriveEnd.TheVariants.{Done}
@@ -17,7 +16,7 @@ use Rattle.ax_migrate_views.specs.Blocks.{new_tree, old_tree}
 use Rattle.ax_migration.specs.Commands.{migrate_command}
 use Rattle.ax_format.specs.Blocks.{BlockTree, SpellsStream}
 use Rattle.ax_format.specs.Plain.{catalogue_tree}
-use Rattle.ax_endpoints.specs.Changes.{SourceChange, SinkChange, Gains}
+use Rattle.ax_endpoints.specs.Changes.{Changes, SourceChange, SinkChange, Gains}
 use Rattle.ax_endpoints.specs.Told.{Rose}
 use Rattle.ax_blocks.specs.BlockCommands.{canon_command}
 use Rattle.ax_blocks.specs.Commands.{BlockCommand, AreGiven, output_of, report_of}

@@ -1,6 +1,7 @@
 //! The block loop of jobs that take no memory for a block.
 ghost use Rattle.std.specs.Prelude.{◌≡◌, None, IsTrue};
-ghost use Rattle.ax_app.specs.Channels.{changes, changes_of};
+ghost use Rattle.ax_endpoints.specs.Changes.{changes_of};
+ghost use Rattle.ax_app.specs.Channels.{changes};
 ghost use Rattle.ax_app.specs.Ends.{IsOfMigration};
 ghost use Rattle.ax_app.specs.Working.{CompletesWork, Drives, DrivesWork, IsMigration, IsNew};
 

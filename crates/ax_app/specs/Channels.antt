@@ -10,7 +10,7 @@ use Rattle.ax_app.specs.declared.channels.Channels.{Channels}
 abbrev pub AtReturn : Type 0 → Type 0 → Type 0 → Type 0
 AtReturn S K R = (MutBor S) × ((MutBor K) × ((MutBor R) × Unit {0}))
 
--- those of channels that were lent to a call
+-- the changes of channels that were lent to a call
 abbrev pub changes : {S K R : Type 0} → SourceOf.Ghosts S → SinkOf.Ghosts K → SinkOf.Ghosts R → Channels S K R → AtReturn S K R → Changes
 changes source_ghosts out_ghosts report_ghosts lent left =
     changes_of source_ghosts out_ghosts report_ghosts lent.source.now left.0.now lent.out.now left.1.0.now lent.report.now left.1.1.0.now

@@ -1,9 +1,8 @@
 //! What a filter says of a record.
 ghost use Rattle.std.specs.Prelude.{◌≡◌, ℕ, Option, IfSome};
 ghost use Rattle.ax_format.specs.Plain.{record_tree};
-ghost use Rattle.ax_expressions.specs.Meaning.{holds};
 ghost use Rattle.ax_filter.specs.Memos.{NoneLater, Recalls, plan_says};
-ghost use Rattle.ax_filter.specs.OfCode.{expression, catalogue_of};
+ghost use Rattle.ax_filter.specs.OfCode.{holds_of};
 ghost use Rattle.ax_filter.specs.Spotted.{IsSpotOf};
 ghost use Rattle.ax_expressions.specs.Tests.{test_tree};
 ghost use Rattle.ax_expressions.specs.declared.plan.Found.{Found};
@@ -19,6 +18,14 @@ use ax_expressions::{CategoryPlan, FEW, Plan, Test, asked_by, meets, said_of_non
 use ax_format::{Record, Spec};
 use ax_walk::{FixedSpot, Notes, PlacedSlots, Places, RecordView, place_record};
 use std::alloc::{AllocError, Global};
+
+/// A record, with its category and the codec that it is asked under.
+#[derive(Clone, Copy)]
+struct CodedRecord<'r, 'c, 'a> {
+    category: u8,
+    codec: &'r Codec,
+    one: &'r RecordView<'c, 'a>,
+}
 
 /// What a plan says of a record under that codec, its items found in one walk.
 fn says_by_places(
@@ -80,7 +87,7 @@ impl<'c> Filter<'c> {
     /// Whether the filter holds of a record of that category's specification, the catalogue's. Takes no memory.
     #[inline(never)]
     pub fn holds(&self, category: u8, one: &RecordView<'_, '_>) -> bool
-        ensures { result ≡ holds (catalogue_of self.now) category (record_entries one.now) (expression self.now) }
+        ensures { result ≡ holds_of self.now category (record_entries one.now) }
     {
         passes(&self.test, category, one)
     }
@@ -111,14 +118,14 @@ impl<'c> Filter<'c> {
     #[inline(always)]
     pub fn holds_by_spot(&self, category: u8, one: &RecordView<'_, '_>, spot: FixedSpot) -> bool
         requires { IsSpotOf (test_tree self.now.test) one.now.codec.now spot }
-        ensures { result ≡ holds (catalogue_of self.now) category (record_entries one.now) (expression self.now) }
+        ensures { result ≡ holds_of self.now category (record_entries one.now) }
     {
         passes_by(&self.test, category, one, spot)
     }
 
     /// The same of a record as a tree.
     pub fn holds_tree(&self, spec: &Spec, one: &Record) -> bool
-        ensures { result ≡ holds (catalogue_of self.now) spec.now.category (record_tree one.now) (expression self.now) }
+        ensures { result ≡ holds_of self.now spec.now.category (record_tree one.now) }
     {
         passes(&self.test, spec.category, one)
     }
@@ -127,9 +134,14 @@ impl<'c> Filter<'c> {
     /// category: no test of another one is looked at, a record of which nothing is asked isn't either, tests of items that it hasn't are
     /// passed over together, and where more than a few ask, its items are found in one walk for all of them. Takes no memory.
     pub fn holds_under(&self, category: u8, codec: &Codec, one: &RecordView<'_, '_>) -> bool
-        ensures { one.now.codec.now ≡ codec.now → result ≡ holds (catalogue_of self.now) category (record_entries one.now) (expression self.now) }
+        ensures { one.now.codec.now ≡ codec.now → result ≡ holds_of self.now category (record_entries one.now) }
     {
-        self.holds_by(category, codec, one, 0, &mut [])
+        let asked = CodedRecord {
+            category,
+            codec,
+            one,
+        };
+        self.holds_by(asked, 0, &mut [])
     }
 
     /// The same, with a memo, which may be one of another filter: what several tests ask is looked for once. Takes no memory.
@@ -141,13 +153,18 @@ impl<'c> Filter<'c> {
         one: &RecordView<'_, '_>,
         memo: &mut Memo,
     ) -> bool
-        ensures { one.now.codec.now ≡ codec.now → result ≡ holds (catalogue_of self.now) category (record_entries one.now) (expression self.now) }
+        ensures { one.now.codec.now ≡ codec.now → result ≡ holds_of self.now category (record_entries one.now) }
     {
         if self.count == 1 {
             return self.holds(category, one);
         }
         memo.go_on();
-        self.holds_by(category, codec, one, memo.number, &mut memo.answers)
+        let asked = CodedRecord {
+            category,
+            codec,
+            one,
+        };
+        self.holds_by(asked, memo.number, &mut memo.answers)
     }
 
     /// A memo with room for what each question of the filter finds.
@@ -156,32 +173,25 @@ impl<'c> Filter<'c> {
     }
 
     /// The same, for a record of that number, with room for some answers; none is known of it.
-    fn holds_by(
-        &self,
-        category: u8,
-        codec: &Codec,
-        one: &RecordView<'_, '_>,
-        number: u32,
-        answers: &mut [Answer],
-    ) -> bool
+    fn holds_by(&self, record: CodedRecord<'_, '_, '_>, number: u32, answers: &mut [Answer]) -> bool
         requires { (found : ℕ → Option Found) → Recalls found number answers.old }
-        ensures holds { one.now.codec.now ≡ codec.now → result ≡ holds (catalogue_of self.now) category (record_entries one.now) (expression self.now) }
+        ensures holds { record.entry.one.now.codec.now ≡ record.entry.codec.now → result ≡ holds_of self.now record.entry.category (record_entries record.entry.one.now) }
         ensures answers { NoneLater number answers.new }
     {
-        match self.plans.get(category as u32) {
+        match self.plans.get(record.category as u32) {
             Some(plan) => {
                 if let Plan::Always { holds } = &plan.plan {
                     return *holds;
                 }
                 let asked = Asked {
-                    record: one,
-                    marked: marked_slots(codec, one),
+                    record: record.one,
+                    marked: marked_slots(record.codec, record.one),
                     number,
                     questions: self.questions.as_slice(),
                 };
-                says_of(plan, codec, &asked, answers)
+                says_of(plan, record.codec, &asked, answers)
             }
-            None => self.holds(category, one),
+            None => self.holds(record.category, record.one),
         }
     }
 }

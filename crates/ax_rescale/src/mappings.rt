@@ -53,9 +53,9 @@ fn mapping_to<'k>(
     kind: &'k Kind,
     new: NamedSlot<'_>,
     old: &Index<'k>,
-    mappings: &mut SlotMappings<'k>,
+    made: &mut SlotMappings<'k>,
 ) -> Result<(), AllocError>
-    ensures { OnOk result (AddsMappings mappings.old mappings.new (slot_mappings new.entry.number (subitem new.entry.name.now (kind_tree kind.now)) (found old.now))) }
+    ensures { OnOk result (AddsMappings made.old made.new (slot_mappings new.entry.number (subitem new.entry.name.now (kind_tree kind.now)) (found old.now))) }
 {
     let number = new.number;
     let Some((from, own)) = old.find(new.name) else {
@@ -65,7 +65,7 @@ fn mapping_to<'k>(
         let parts = shared_parts(own, kind);
         let below = mappings_of_kinds(alloc, kind, own)?;
         return push(
-            mappings,
+            made,
             SlotMapping {
                 old: from,
                 new: number,
@@ -79,7 +79,7 @@ fn mapping_to<'k>(
         return Ok(());
     }
     push(
-        mappings,
+        made,
         SlotMapping {
             old: from,
             new: number,

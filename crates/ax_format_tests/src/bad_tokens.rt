@@ -1,6 +1,6 @@
 //! The first bad token of texts that are no block's.
 
-use crate::text_catalogues::{add_file, catalogue_of, is_bad_at, repeated};
+use crate::text_catalogues::{Line, Repeated, add_file, catalogue_of, is_bad_at};
 use ax_check::Catalogue;
 use ax_vectors::{CAT048_P1, FILE_A, FILE_H1, FILE_N};
 use std::alloc::Global;
@@ -68,14 +68,14 @@ fn the_first_bad_token_is_named(rt: HostRuntime) {
     let alloc = rt.alloc();
     let catalogue = catalogue_of(&rt, alloc, CAT048_P1);
     for &(line, want) in &BAD {
-        is_bad_at(&rt, alloc, &catalogue, line.as_bytes(), want, line);
+        is_bad_at(&rt, alloc, &catalogue, &Line::of(line), want);
     }
 }
 
 /// Asserts the number of the first bad token of a line under a file.
 fn is_bad_under(rt: &impl Abort, alloc: Global, &(file, line, want): &(&str, &str, u32)) {
     let catalogue = catalogue_of(rt, alloc, file);
-    is_bad_at(rt, alloc, &catalogue, line.as_bytes(), want, line);
+    is_bad_at(rt, alloc, &catalogue, &Line::of(line), want);
 }
 
 #[test]
@@ -86,41 +86,56 @@ fn the_first_bad_token_under_other_files(rt: HostRuntime) {
 }
 
 // An SP of 255 octets, and a 256th occurrence of item 250.
-const TOO_MANY: [(&str, u32, &str, &str, u32); 2] = [
-    ("block 048 { record { SP \"", 255, "0a", "\" } }", 6),
+static TOO_MANY: [(Repeated, u32); 2] = [
     (
-        "block 048 { record { 250 {",
-        256,
-        " { MB 1 BDS1 2 BDS2 3 }",
-        " } } }",
+        Repeated {
+            front: "block 048 { record { SP \"",
+            count: 255,
+            middle: "0a",
+            end: "\" } }",
+        },
+        6,
+    ),
+    (
+        Repeated {
+            front: "block 048 { record { 250 {",
+            count: 256,
+            middle: " { MB 1 BDS1 2 BDS2 3 }",
+            end: " } } }",
+        },
         2047,
     ),
 ];
 
-/// Asserts the number of the first bad token of a line with so many middles.
+/// Asserts the number of the first bad token of a line with so many middles, which is named by its front.
 fn is_bad_where_repeated(
     rt: &impl Abort,
     alloc: Global,
     catalogue: &Catalogue,
-    &(front, count, middle, end, want): &(&str, u32, &str, &str, u32),
+    repeated: &Repeated,
+    want: u32,
 ) {
-    let line = repeated(rt, alloc, front, count, middle, end);
-    is_bad_at(rt, alloc, catalogue, &line, want, front);
+    let octets = repeated.made(rt, alloc);
+    let line = Line {
+        octets: &octets,
+        name: repeated.front,
+    };
+    is_bad_at(rt, alloc, catalogue, &line, want);
 }
 
 #[test]
 fn a_list_has_at_most_so_many(rt: HostRuntime) {
     let catalogue = catalogue_of(&rt, rt.alloc(), CAT048_P1);
-    for row in &TOO_MANY {
-        is_bad_where_repeated(&rt, rt.alloc(), &catalogue, row);
+    for (repeated, want) in &TOO_MANY {
+        is_bad_where_repeated(&rt, rt.alloc(), &catalogue, repeated, *want);
     }
 }
 
 #[test]
 fn without_a_file_no_text_begins_with_block(rt: HostRuntime) {
     let catalogue = Catalogue::new(rt.alloc());
-    let line = "block 048 { record { } }";
-    is_bad_at(&rt, rt.alloc(), &catalogue, line.as_bytes(), 0, line);
+    let line = Line::of("block 048 { record { } }");
+    is_bad_at(&rt, rt.alloc(), &catalogue, &line, 0);
 }
 
 /// A catalogue with a file of each category, which has no item.
@@ -141,6 +156,6 @@ fn all_categories(rt: &impl Abort, alloc: Global) -> Catalogue {
 #[test]
 fn with_all_categories_no_text_begins_with_opaque(rt: HostRuntime) {
     let catalogue = all_categories(&rt, rt.alloc());
-    let line = "opaque 062 \"00\"";
-    is_bad_at(&rt, rt.alloc(), &catalogue, line.as_bytes(), 0, line);
+    let line = Line::of("opaque 062 \"00\"");
+    is_bad_at(&rt, rt.alloc(), &catalogue, &line, 0);
 }

@@ -36,33 +36,54 @@ fn adds(rt: &impl Abort, alloc: Global, catalogue: &mut Catalogue, text: &str, t
     assert!(rt; refused == twice, "{refused:?} for {text}");
 }
 
-/// Asserts that the text is added, or refused for that category, and that the catalogue is told so then.
-fn adding_leaves(
-    rt: &impl Abort,
-    alloc: Global,
-    catalogue: &mut Catalogue,
-    text: &str,
+/// A text that is added, the category that it is refused for, if any, and what the catalogue is told as then.
+#[derive(Clone, Copy)]
+struct Adding {
+    text: &'static str,
     twice: Option<u8>,
-    holds: &str,
-) {
-    adds(rt, alloc, catalogue, text, twice);
-    let found = told(rt, alloc, catalogue);
-    same(rt, found.as_str(), holds, text);
+    holds: &'static str,
 }
 
-const ADDED: [(&str, Option<u8>, &str); 5] = [
-    (FILE_A, None, "34 034-A, "),
-    (CAT034_P1, Some(34), "34 034-A, "),
-    (CAT048_P1, None, "34 034-A, 48 048-P1, "),
-    (CAT019_P1, None, "34 034-A, 48 048-P1, 19 019-P1, "),
-    (CAT048_P1, Some(48), "34 034-A, 48 048-P1, 19 019-P1, "),
+/// Asserts that the text is added, or refused for that category, and that the catalogue is told so then.
+fn adding_leaves(rt: &impl Abort, alloc: Global, catalogue: &mut Catalogue, one: &Adding) {
+    adds(rt, alloc, catalogue, one.text, one.twice);
+    let found = told(rt, alloc, catalogue);
+    same(rt, found.as_str(), one.holds, one.text);
+}
+
+static ADDED: [Adding; 5] = [
+    Adding {
+        text: FILE_A,
+        twice: None,
+        holds: "34 034-A, ",
+    },
+    Adding {
+        text: CAT034_P1,
+        twice: Some(34),
+        holds: "34 034-A, ",
+    },
+    Adding {
+        text: CAT048_P1,
+        twice: None,
+        holds: "34 034-A, 48 048-P1, ",
+    },
+    Adding {
+        text: CAT019_P1,
+        twice: None,
+        holds: "34 034-A, 48 048-P1, 19 019-P1, ",
+    },
+    Adding {
+        text: CAT048_P1,
+        twice: Some(48),
+        holds: "34 034-A, 48 048-P1, 19 019-P1, ",
+    },
 ];
 
 #[test]
 fn a_category_stands_once(rt: HostRuntime) {
     let mut catalogue = Catalogue::new(rt.alloc());
-    for &(text, twice, holds) in &ADDED {
-        adding_leaves(&rt, rt.alloc(), &mut catalogue, text, twice, holds);
+    for one in &ADDED {
+        adding_leaves(&rt, rt.alloc(), &mut catalogue, one);
     }
     assert!(rt; catalogue.at(3).is_none());
     assert!(rt; catalogue.get(0).is_none());

@@ -111,19 +111,19 @@ const LISTED: [(&str, u64, &str, &str); 9] = [
     ),
 ];
 
-/// Asserts that the block of that number that octets are has this listing. The block is named so.
-fn has_listing(
-    rt: &impl Abort,
-    alloc: Global,
-    file: &Accepted,
+/// A block: its number, its octets, and what it is named where its listing is another one.
+#[derive(Clone, Copy)]
+struct Numbered<'b> {
     number: u64,
-    octets: &[u8],
-    want: &str,
-    of: &str,
-) {
-    let block = octets_decoded(rt, alloc, file.spec(), octets);
-    let lines = show_lines(alloc, file.spec(), &block, number).expect(rt, "memory");
-    same_octets(rt, &lines, want.as_bytes(), of);
+    octets: &'b [u8],
+    name: &'b str,
+}
+
+/// Asserts that a block has this listing.
+fn has_listing(rt: &impl Abort, alloc: Global, file: &Accepted, one: &Numbered<'_>, want: &str) {
+    let block = octets_decoded(rt, alloc, file.spec(), one.octets);
+    let lines = show_lines(alloc, file.spec(), &block, one.number).expect(rt, "memory");
+    same_octets(rt, &lines, want.as_bytes(), one.name);
 }
 
 /// Asserts the same of octets in hexadecimal, under a category file.
@@ -134,7 +134,12 @@ fn is_listed_as(
 ) {
     let file = accepted(rt, alloc, text);
     let octets = octets_of(rt, alloc, block);
-    has_listing(rt, alloc, &file, number, &octets, want, block);
+    let one = Numbered {
+        number,
+        octets: &octets,
+        name: block,
+    };
+    has_listing(rt, alloc, &file, &one, want);
 }
 
 #[test]
@@ -210,7 +215,12 @@ fn is_remarked_as(rt: &impl Abort, alloc: Global, file: &Accepted, item: &str, w
         "block 0 category 009 octets {length} records 1\nrecord 0\n{want}"
     );
     let want = want.expect(rt, "memory");
-    has_listing(rt, alloc, file, 0, &block, want.as_str(), item);
+    let one = Numbered {
+        number: 0,
+        octets: &block,
+        name: item,
+    };
+    has_listing(rt, alloc, file, &one, want.as_str());
 }
 
 #[test]

@@ -1,6 +1,6 @@
 //! Texts of blocks whose canonical form is too long.
 
-use crate::text_catalogues::{block_of, catalogue_of, is_bad_at, is_too_long, repeated};
+use crate::text_catalogues::{Line, Repeated, block_of, catalogue_of, is_bad_at, is_too_long};
 use ax_check::Catalogue;
 use ax_vectors::{CAT048_P1, FILE_A};
 use std::alloc::Global;
@@ -9,13 +9,25 @@ use std::process::Abort;
 #[test]
 fn records_of_65533_octets_are_too_long(rt: HostRuntime) {
     let catalogue = catalogue_of(&rt, rt.alloc(), CAT048_P1);
-    let line = repeated(&rt, rt.alloc(), "block 048 {", 65_533, " record { }", " }");
+    let records = Repeated {
+        front: "block 048 {",
+        count: 65_533,
+        middle: " record { }",
+        end: " }",
+    };
+    let line = records.made(&rt, rt.alloc());
     is_too_long(&rt, rt.alloc(), &catalogue, &line, 65_536);
 }
 
 /// An opaque block of that many octets, and what stands after it.
-fn opaque(rt: &impl Abort, alloc: Global, count: u32, end: &str) -> Vec<u8> {
-    repeated(rt, alloc, "opaque 062 \"", count, "0a", end)
+fn opaque(rt: &impl Abort, alloc: Global, count: u32, end: &'static str) -> Vec<u8> {
+    let octets = Repeated {
+        front: "opaque 062 \"",
+        count,
+        middle: "0a",
+        end,
+    };
+    octets.made(rt, alloc)
 }
 
 fn is_read(rt: &impl Abort, alloc: Global, catalogue: &Catalogue, count: u32) {
@@ -30,8 +42,12 @@ fn is_long(rt: &impl Abort, alloc: Global, catalogue: &Catalogue, count: u32, wa
 
 // A bad token comes before the length.
 fn is_bad(rt: &impl Abort, alloc: Global, catalogue: &Catalogue, count: u32, want: u32) {
-    let line = opaque(rt, alloc, count, "\" x");
-    is_bad_at(rt, alloc, catalogue, &line, want, "octets");
+    let octets = opaque(rt, alloc, count, "\" x");
+    let line = Line {
+        octets: &octets,
+        name: "octets",
+    };
+    is_bad_at(rt, alloc, catalogue, &line, want);
 }
 
 #[test]

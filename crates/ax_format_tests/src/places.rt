@@ -30,23 +30,11 @@ fn told(alloc: Global, one: &Accepted, place: &Place) -> Result<String, AllocErr
     }
 }
 
-/// Asserts that the place of a path, or a copy of it, is told so.
-fn is_told(
-    rt: &impl Abort,
-    alloc: Global,
-    one: &Accepted,
-    place: &Place,
-    wanted: &str,
-    path: &str,
-) {
-    let found = told(alloc, one, place).expect(rt, "memory");
-    same(rt, found.as_str(), wanted, path);
-}
-
 /// Asserts that a path leads to a place that is told so.
 fn leads_to(rt: &impl Abort, alloc: Global, one: &Accepted, text: &str, wanted: &str) {
     let place = place_of(rt, alloc, one, text).expect(rt, text);
-    is_told(rt, alloc, one, &place, wanted, text);
+    let found = told(alloc, one, &place).expect(rt, "memory");
+    same(rt, found.as_str(), wanted, text);
 }
 
 const PLACES: [(&str, &str); 6] = [
@@ -126,6 +114,7 @@ fn copied_places_equal_their_originals(rt: HostRuntime) {
     let one = accepted(&rt, rt.alloc(), CAT048_P1);
     let place = place_of(&rt, rt.alloc(), &one, "020/TST").expect(&rt, "a place");
     let copy = place.copy(rt.alloc()).expect(&rt, "memory");
+    let found = told(rt.alloc(), &one, &copy).expect(&rt, "memory");
     let wanted = "FRN 3 steps [1, 0] width 1";
-    is_told(&rt, rt.alloc(), &one, &copy, wanted, "020/TST");
+    same(&rt, found.as_str(), wanted, "020/TST");
 }

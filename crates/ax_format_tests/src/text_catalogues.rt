@@ -28,22 +28,26 @@ fn add(rt: &impl Abort, line: &mut Vec<u8>, text: &str) {
     line.extend_from_slice(text.as_bytes()).expect(rt, "memory");
 }
 
-/// A front, so many times the middle, and an end.
-pub(crate) fn repeated(
-    rt: &impl Abort,
-    alloc: Global,
-    front: &str,
-    count: u32,
-    middle: &str,
-    end: &str,
-) -> Vec<u8> {
-    let mut line = Vec::new(alloc);
-    add(rt, &mut line, front);
-    for _ in 0..count {
-        add(rt, &mut line, middle);
+/// A line with a front, so many times the middle, and an end.
+#[derive(Clone, Copy)]
+pub(crate) struct Repeated {
+    pub(crate) front: &'static str,
+    pub(crate) count: u32,
+    pub(crate) middle: &'static str,
+    pub(crate) end: &'static str,
+}
+
+impl Repeated {
+    /// The octets of the line.
+    pub(crate) fn made(&self, rt: &impl Abort, alloc: Global) -> Vec<u8> {
+        let mut line = Vec::new(alloc);
+        add(rt, &mut line, self.front);
+        for _ in 0..self.count {
+            add(rt, &mut line, self.middle);
+        }
+        add(rt, &mut line, self.end);
+        line
     }
-    add(rt, &mut line, end);
-    line
 }
 
 /// The block of a line, by the limit of nesting that record text has.
@@ -74,17 +78,38 @@ pub(crate) fn encoded(rt: &impl Abort, alloc: Global, file: &Accepted, block: &B
     encode_block(alloc, file.spec(), block).expect(rt, "octets")
 }
 
-/// Asserts the number of the first bad token of a line that is no block's. The line is named so.
+/// A line, and what it is named where its first bad token is another one.
+#[derive(Clone, Copy)]
+pub(crate) struct Line<'l> {
+    pub(crate) octets: &'l [u8],
+    pub(crate) name: &'l str,
+}
+
+impl<'l> Line<'l> {
+    /// The line of a text, named by it.
+    pub(crate) fn of(text: &'l str) -> Line<'l> {
+        Line {
+            octets: text.as_bytes(),
+            name: text,
+        }
+    }
+}
+
+/// Asserts the number of the first bad token of a line that is no block's.
 pub(crate) fn is_bad_at(
     rt: &impl Abort,
     alloc: Global,
     catalogue: &Catalogue,
-    line: &[u8],
+    line: &Line<'_>,
     wanted: u32,
-    of: &str,
 ) {
-    match read_line(rt, alloc, catalogue, line) {
-        Err(TextError::BadToken { token }) => same_number(rt, token as i128, wanted as i128, of),
+    match read_line(rt, alloc, catalogue, line.octets) {
+        Err(TextError::BadToken { token }) => same_number(
+            rt,
+            token as i128,
+            wanted as i128,
+            line.name,
+        ),
         _ => panic!(rt; "no bad token"),
     }
 }

@@ -34,18 +34,34 @@ fn with_files(rt: &impl Abort, alloc: Global, verb: &str, files: &WordTexts) -> 
     shown
 }
 
-/// A verb, and two files in brackets with a word between them.
-fn with_two(
+/// What is shown, and another file in brackets after a word between.
+fn with_other(
     rt: &impl Abort,
     alloc: Global,
-    verb: &str,
-    one: &WordText,
+    mut shown: String,
     between: &str,
     other: &WordText,
 ) -> String {
-    let mut shown = with_word(rt, alloc, verb, one);
     shown.push_str(between).expect(rt, "memory");
     with_word(rt, alloc, shown.as_str(), other)
+}
+
+/// A verb, and the files of an old edition and of a new one in brackets.
+fn with_editions(
+    rt: &impl Abort,
+    alloc: Global,
+    verb: &str,
+    old: &WordText,
+    new: &WordText,
+) -> String {
+    let shown = with_word(rt, alloc, verb, old);
+    with_other(rt, alloc, shown, " to", new)
+}
+
+/// The files of a specification and of its expansion in brackets.
+fn with_expansion(rt: &impl Abort, alloc: Global, spec: &WordText, expansion: &WordText) -> String {
+    let shown = with_word(rt, alloc, "expand", spec);
+    with_other(rt, alloc, shown, " by", expansion)
 }
 
 /// The file of a trial in brackets, and its numbers.
@@ -64,13 +80,11 @@ fn shown(rt: &impl Abort, alloc: Global, line: &Line) -> String {
         Line::Text { files } => with_files(rt, alloc, "text", files),
         Line::Build { files } => with_files(rt, alloc, "build", files),
         Line::Filter { expr, files } => with_files(rt, alloc, expr.text(), files),
-        Line::Migrate { old, new } => with_two(rt, alloc, "migrate", old, " to", new),
+        Line::Migrate { old, new } => with_editions(rt, alloc, "migrate", old, new),
         Line::Trial { file, seed, count } => with_numbers(rt, alloc, file, *seed, *count),
         Line::Salvage { files } => with_files(rt, alloc, "salvage", files),
-        Line::Expand { spec, expansion } => {
-            with_two(rt, alloc, "expand", spec, " by", expansion)
-        }
-        Line::Convert { old, new } => with_two(rt, alloc, "convert", old, " to", new),
+        Line::Expand { spec, expansion } => with_expansion(rt, alloc, spec, expansion),
+        Line::Convert { old, new } => with_editions(rt, alloc, "convert", old, new),
         Line::Help => String::from_str(alloc, "help").expect(rt, "memory"),
         Line::Version => String::from_str(alloc, "version").expect(rt, "memory"),
     }

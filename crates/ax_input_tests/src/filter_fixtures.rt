@@ -180,16 +180,18 @@ fn raw_of<'o>(rt: &impl Abort, octets: &'o [u8]) -> RawBlock<'o> {
     }
 }
 
-/// Asserts that of a block the records that the expression holds of make this one, in canonical form; no octets where it
+/// An expression, a block, and the block of its records that the expression holds of, in canonical form; no octets where it
 /// holds of none.
-pub(crate) fn keeps(
-    rt: &impl Abort,
-    alloc: Global,
-    catalogue: &Catalogue,
-    text: &str,
-    block: &str,
-    want: &str,
-) {
+#[derive(Clone, Copy)]
+pub(crate) struct Case<'t> {
+    pub(crate) text: &'t str,
+    pub(crate) block: &'t str,
+    pub(crate) want: &'t str,
+}
+
+/// Asserts that the expression keeps that of the block.
+pub(crate) fn keeps(rt: &impl Abort, alloc: Global, catalogue: &Catalogue, one: Case<'_>) {
+    let Case { text, block, want } = one;
     let filter = filter_of(rt, alloc, catalogue, text);
     let octets = octets(alloc, block).expect(rt, "octets");
     let raw = raw_of(rt, &octets);

@@ -1,5 +1,5 @@
 //! The records of a block that an expression holds of, in canonical form.
-use crate::filter_fixtures::{catalogue, keeps};
+use crate::filter_fixtures::{Case, catalogue, keeps};
 use ax_check::Catalogue;
 use ax_vectors::{CAT034_P1, CAT048_P1};
 use std::alloc::Global;
@@ -202,7 +202,7 @@ const TOGETHER: [(&str, &str, &str); 17] = [
 
 fn each_keeps(rt: &impl Abort, alloc: Global, files: &Catalogue, rows: &[(&str, &str, &str)]) {
     for &(text, block, want) in rows {
-        keeps(rt, alloc, files, text, block, want);
+        keeps(rt, alloc, files, Case { text, block, want });
     }
 }
 

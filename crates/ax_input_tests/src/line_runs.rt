@@ -59,15 +59,16 @@ fn echo_work(alloc: Global) -> Echo {
     }
 }
 
-/// Asserts that a run over the input writes that text and ends so.
-fn leaves(
-    rt: &impl Abort,
-    alloc: Global,
-    input: Input<'_>,
-    output: Output<'_>,
-    written: &str,
+/// What a run leaves: the text that is written, and the end.
+#[derive(Clone, Copy)]
+struct Left<'w> {
+    written: &'w str,
     end: LinesEnd<u64>,
-) {
+}
+
+/// Asserts what a run over the input leaves.
+fn leaves(rt: &impl Abort, alloc: Global, input: Input<'_>, output: Output<'_>, want: Left<'_>) {
+    let Left { written, end } = want;
     let mut source = source(rt, alloc, input);
     let mut out = sink(rt, alloc, output);
     let ended = run_lines(alloc, &mut echo_work(alloc), &mut source, &mut out);
@@ -107,23 +108,16 @@ const CASES: [(&str, &str, LinesEnd<u64>); 9] = [
 
 const CUTS: [&[u32]; 2] = [&[], &[1; 9]];
 
-fn text_leaves(
-    rt: &impl Abort,
-    alloc: Global,
-    text: &str,
-    cuts: &[u32],
-    written: &str,
-    end: LinesEnd<u64>,
-) {
+fn text_leaves(rt: &impl Abort, alloc: Global, text: &str, cuts: &[u32], want: Left<'_>) {
     let octets = octets_of(rt, alloc, text);
-    leaves(rt, alloc, (&octets, cuts, &[]), SOUND, written, end);
+    leaves(rt, alloc, (&octets, cuts, &[]), SOUND, want);
 }
 
 #[test]
 fn each_cut_gives_the_same(rt: HostRuntime) {
     for &cuts in &CUTS {
         for &(text, written, end) in &CASES {
-            text_leaves(&rt, rt.alloc(), text, cuts, written, end);
+            text_leaves(&rt, rt.alloc(), text, cuts, Left { written, end });
         }
     }
 }
@@ -146,7 +140,8 @@ const READS: [(u64, &str); 7] = [
 fn a_failing_read_ends_the_run(rt: HostRuntime) {
     for &(call, written) in &READS {
         let input: Input<'_> = (LINES, &[1; 6], &[call]);
-        leaves(&rt, rt.alloc(), input, SOUND, written, LinesEnd::ReadFault);
+        let end = LinesEnd::ReadFault;
+        leaves(&rt, rt.alloc(), input, SOUND, Left { written, end });
     }
 }
 
@@ -164,7 +159,7 @@ const LAST_READS: [(u64, &str, LinesEnd<u64>); 3] = [
 fn nothing_is_read_once_the_input_has_ended(rt: HostRuntime) {
     for &(call, written, end) in &LAST_READS {
         let input: Input<'_> = (UNENDED, &[1; 6], &[call]);
-        leaves(&rt, rt.alloc(), input, SOUND, written, end);
+        leaves(&rt, rt.alloc(), input, SOUND, Left { written, end });
     }
 }
 
@@ -198,6 +193,7 @@ const WRITES: [(u32, u64, &str, LinesEnd<u64>); 7] = [
 fn a_failing_write_ends_the_run(rt: HostRuntime) {
     for &(largest, call, written, end) in &WRITES {
         let input: Input<'_> = (LINES, &[], &[]);
-        leaves(&rt, rt.alloc(), input, (largest, &[call]), written, end);
+        let output: Output<'_> = (largest, &[call]);
+        leaves(&rt, rt.alloc(), input, output, Left { written, end });
     }
 }

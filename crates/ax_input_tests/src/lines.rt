@@ -35,20 +35,27 @@ fn ends(reader: &mut LineReader, source: &mut MemSource, end: Option<LineError>)
     true
 }
 
-/// Asserts that a reader with those limits, on a line and on the input, gives these lines and then ends so.
-fn reads(
-    rt: &impl Abort,
-    alloc: Global,
-    input: Input<'_>,
-    (line_limit, limit): (u32, u64),
-    lines: &[&str],
+/// The most octets that a reader takes: of a line, and of the whole input.
+#[derive(Clone, Copy)]
+struct Limits {
+    line: u32,
+    whole: u64,
+}
+
+/// What a reader gives: the lines, and the end.
+#[derive(Clone, Copy)]
+struct Given<'l> {
+    lines: &'l [&'l str],
     end: Option<LineError>,
-) {
-    assert!(rt; line_limit < 100);
-    let mut reader = LineReader::new(alloc, line_limit, limit).expect(rt, "memory");
+}
+
+/// Asserts what a reader with those limits gives.
+fn reads(rt: &impl Abort, alloc: Global, input: Input<'_>, limits: Limits, want: Given<'_>) {
+    assert!(rt; limits.line < 100);
+    let mut reader = LineReader::new(alloc, limits.line, limits.whole).expect(rt, "memory");
     let mut source = source(rt, alloc, input);
-    assert!(rt; gives(&mut reader, &mut source, lines), "of {input:?}");
-    assert!(rt; ends(&mut reader, &mut source, end), "of {input:?}");
+    assert!(rt; gives(&mut reader, &mut source, want.lines), "of {input:?}");
+    assert!(rt; ends(&mut reader, &mut source, want.end), "of {input:?}");
 }
 
 // An input, the limits on a line and on the input, the lines that are given, and the end.
@@ -76,12 +83,19 @@ const CUTS: [&[u32]; 3] = [&[], &[1; 8], &[2, 3, 1, 2]];
 #[test]
 fn each_cut_gives_the_same(rt: HostRuntime) {
     for &cuts in &CUTS {
-        for &(text, line_limit, limit, lines, end) in &CASES {
+        for &(text, line, whole, lines, end) in &CASES {
+            let limits = Limits { line, whole };
             let input: Input<'_> = (text.as_bytes(), cuts, &[]);
-            reads(&rt, rt.alloc(), input, (line_limit, limit), lines, end);
+            reads(&rt, rt.alloc(), input, limits, Given { lines, end });
         }
     }
 }
+
+// Limits that no input below comes near.
+const AMPLE: Limits = Limits {
+    line: 4,
+    whole: 100,
+};
 
 // Each call of an input octet by octet, and the lines that are given where that call fails.
 const FAILING: [(u64, &[&str]); 7] = [
@@ -99,7 +113,7 @@ fn a_failing_read_ends_the_lines(rt: HostRuntime) {
     let end = Some(LineError::ReadFault);
     for &(call, lines) in &FAILING {
         let input: Input<'_> = (b"ab\n\nc\n", &[1; 6], &[call]);
-        reads(&rt, rt.alloc(), input, (4, 100), lines, end);
+        reads(&rt, rt.alloc(), input, AMPLE, Given { lines, end });
     }
 }
 
@@ -107,6 +121,9 @@ fn a_failing_read_ends_the_lines(rt: HostRuntime) {
 #[test]
 fn lines_buffered_come_first(rt: HostRuntime) {
     let input: Input<'_> = (b"ab\n\nc\nd", &[], &[1]);
-    let end = Some(LineError::ReadFault);
-    reads(&rt, rt.alloc(), input, (4, 100), &["ab", "", "c"], end);
+    let want = Given {
+        lines: &["ab", "", "c"],
+        end: Some(LineError::ReadFault),
+    };
+    reads(&rt, rt.alloc(), input, AMPLE, want);
 }

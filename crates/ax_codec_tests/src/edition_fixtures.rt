@@ -124,6 +124,21 @@ pub(crate) fn accepted(rt: &impl Abort, alloc: Global, edition: Edition) -> Acce
     fixtures::accepted(rt, alloc, edition.text())
 }
 
+/// The specifications of two editions of a category.
+#[derive(Drop)]
+pub(crate) struct Editions {
+    pub(crate) old: Accepted,
+    pub(crate) new: Accepted,
+}
+
+/// The specifications of two files.
+pub(crate) fn both(rt: &impl Abort, alloc: Global, old: Edition, new: Edition) -> Editions {
+    Editions {
+        old: accepted(rt, alloc, old),
+        new: accepted(rt, alloc, new),
+    }
+}
+
 /// The block that octets in hexadecimal are read as.
 pub(crate) fn decoded(rt: &impl Abort, alloc: Global, spec: &Spec, block: &str) -> Block
     requires { HasNoFlaw spec.now }

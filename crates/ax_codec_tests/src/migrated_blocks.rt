@@ -1,6 +1,6 @@
 //! Single blocks of one edition in another, as trees.
 
-use crate::edition_fixtures::{Edition, accepted, decoded, have_lines, same};
+use crate::edition_fixtures::{Edition, Editions, both, decoded, have_lines, same};
 use crate::fixtures::octets_of;
 use ax_check::Accepted;
 use ax_edition::relate;
@@ -184,14 +184,17 @@ const OPAQUE: (Edition, Edition, &str, &str, &str) = (
     "",
 );
 
+/// A block of the old edition and its octets in the new one, in hexadecimal, and the lines of its losses as those of block 7.
+#[derive(Clone, Copy)]
+pub(crate) struct Moved<'m> {
+    pub(crate) input: &'m str,
+    pub(crate) made: &'m str,
+    pub(crate) lines: &'m str,
+}
+
 /// The migrated block, and what it lost.
-fn migrated(
-    rt: &impl Abort,
-    alloc: Global,
-    old: &Accepted,
-    new: &Accepted,
-    input: &str,
-) -> Migrated {
+fn migrated(rt: &impl Abort, alloc: Global, editions: &Editions, input: &str) -> Migrated {
+    let Editions { old, new } = editions;
     let relation = relate(alloc, old, new).expect(rt, "editions of one category");
     let block = decoded(rt, alloc, old.spec(), input);
     let moved = migrate_tree(alloc, &relation, old.spec(), new.spec(), &block);
@@ -204,20 +207,12 @@ fn encoded(rt: &impl Abort, alloc: Global, file: &Accepted, block: &Block) -> Ve
     encode_block(alloc, file.spec(), block).expect(rt, "octets")
 }
 
-/// Asserts that the migrated block has these octets, and that its losses as those of block 7 have these lines.
-pub(crate) fn migrates_as(
-    rt: &impl Abort,
-    alloc: Global,
-    old: &Accepted,
-    new: &Accepted,
-    input: &str,
-    made: &str,
-    lines: &str,
-) {
-    let got = migrated(rt, alloc, old, new, input);
-    let octets = encoded(rt, alloc, new, &got.block);
-    same(rt, &octets, &octets_of(rt, alloc, made), input);
-    have_lines(rt, alloc, &got.losses, lines, input);
+/// Asserts that the migrated block has these octets, and that its losses have these lines.
+pub(crate) fn migrates_as(rt: &impl Abort, alloc: Global, editions: &Editions, want: Moved<'_>) {
+    let got = migrated(rt, alloc, editions, want.input);
+    let octets = encoded(rt, alloc, &editions.new, &got.block);
+    same(rt, &octets, &octets_of(rt, alloc, want.made), want.input);
+    have_lines(rt, alloc, &got.losses, want.lines, want.input);
 }
 
 fn migrates(
@@ -225,9 +220,9 @@ fn migrates(
     alloc: Global,
     &(old, new, input, made, lines): &(Edition, Edition, &str, &str, &str),
 ) {
-    let old = accepted(rt, alloc, old);
-    let new = accepted(rt, alloc, new);
-    migrates_as(rt, alloc, &old, &new, input, made, lines);
+    let editions = both(rt, alloc, old, new);
+    let want = Moved { input, made, lines };
+    migrates_as(rt, alloc, &editions, want);
 }
 
 #[test]

@@ -1,7 +1,8 @@
 //! Extended items of one edition in another, part by part.
 
+use crate::edition_fixtures::Editions;
 use crate::fixtures;
-use crate::migrated_blocks::migrates_as;
+use crate::migrated_blocks::{Moved, migrates_as};
 use ax_check::Accepted;
 use std::alloc::Global;
 use std::process::Abort;
@@ -249,11 +250,19 @@ pub(crate) static PARTS: [(&str, &str, &str, &str, &str); 31] = [
 ];
 
 /// The edition with item 010 of that kind.
-pub(crate) fn edition_of(rt: &impl Abort, alloc: Global, kind: &str) -> Accepted {
+fn edition_of(rt: &impl Abort, alloc: Global, kind: &str) -> Accepted {
     let file = format!(in alloc;
         "category 207 edition \"X\" items {{ item 010 \"\" {kind} item 020 \"\" element 8 raw item 030 \"\" element 8 raw }} uap {{ 020 010 030 }}"
     );
     fixtures::accepted(rt, alloc, file.expect(rt, "memory").as_str())
+}
+
+/// The editions with item 010 of those kinds.
+pub(crate) fn editions_of(rt: &impl Abort, alloc: Global, old: &str, new: &str) -> Editions {
+    Editions {
+        old: edition_of(rt, alloc, old),
+        new: edition_of(rt, alloc, new),
+    }
 }
 
 fn migrates(
@@ -261,9 +270,9 @@ fn migrates(
     alloc: Global,
     &(old, new, input, made, lines): &(&str, &str, &str, &str, &str),
 ) {
-    let old = edition_of(rt, alloc, old);
-    let new = edition_of(rt, alloc, new);
-    migrates_as(rt, alloc, &old, &new, input, made, lines);
+    let editions = editions_of(rt, alloc, old, new);
+    let want = Moved { input, made, lines };
+    migrates_as(rt, alloc, &editions, want);
 }
 
 #[test]

@@ -2,12 +2,11 @@
 ghost use Rattle.std.specs.Prelude.{◌≡◌};
 ghost use Rattle.ax_relation.specs.Relates.{Relates};
 
-use crate::edition_fixtures::{Edition, accepted, report_of, same};
+use crate::edition_fixtures::{Edition, Editions, both, report_of, same};
 use crate::fixtures::{octets_of, raw_of};
-use crate::migrated_blocks::MIGRATED;
-use crate::migrated_parts::{PARTS, edition_of};
+use crate::migrated_blocks::{MIGRATED, Moved};
+use crate::migrated_parts::{PARTS, editions_of};
 use ax_bits::Out;
-use ax_check::Accepted;
 use ax_edition::{Relation, relate};
 use ax_migrate::loss_line;
 use ax_migrate_views::Migrator;
@@ -25,8 +24,7 @@ fn loses(
     alloc: Global,
     migrator: &Migrator<'_>,
     view: &BlockView<'_, '_>,
-    lines: &str,
-    of: &str,
+    want: Moved<'_>,
 )
     requires view { view.now.codec.now ≡ migrator.now.codec.now }
 {
@@ -34,7 +32,7 @@ fn loses(
     for loss in migrator.losses(view) {
         loss_line(&mut report, 7, &loss).expect(rt, "a line that is written");
     }
-    same(rt, report.written(), lines.as_bytes(), of);
+    same(rt, report.written(), want.lines.as_bytes(), want.input);
 }
 
 /// Asserts that the migrated block of a view has these octets and as many.
@@ -56,42 +54,36 @@ fn becomes(
 }
 
 /// Asserts both of the view of a block.
-fn is_migrated(rt: &impl Abort, alloc: Global, migrator: &Migrator<'_>, row: (&str, &str, &str)) {
-    let (input, made, lines) = row;
-    let octets = octets_of(rt, alloc, input);
-    let raw = raw_of(rt, &octets, input);
+fn is_migrated(rt: &impl Abort, alloc: Global, migrator: &Migrator<'_>, want: Moved<'_>) {
+    let octets = octets_of(rt, alloc, want.input);
+    let raw = raw_of(rt, &octets, want.input);
     let view = scan(migrator.old(), raw.body).expect(rt, "records");
-    let made = octets_of(rt, alloc, made);
-    becomes(rt, migrator, &view, &made, input);
-    loses(rt, alloc, migrator, &view, lines, input);
+    let made = octets_of(rt, alloc, want.made);
+    becomes(rt, migrator, &view, &made, want.input);
+    loses(rt, alloc, migrator, &view, want);
 }
 
 /// Asserts that of the view of a block, of the old edition in the new one, by their relation.
 fn is_migrated_by(
     rt: &impl Abort,
     alloc: Global,
-    old: &Accepted,
-    new: &Accepted,
+    editions: &Editions,
     relation: &Relation,
-    row: (&str, &str, &str),
+    want: Moved<'_>,
 )
-    requires { Relates old.now new.now relation.now }
+    requires { Relates editions.now.old editions.now.new relation.now }
 {
+    let Editions { old, new } = editions;
     let codec = compile(alloc, old).expect(rt, "memory");
     let migrator = Migrator::new(alloc, old.spec(), new.spec(), relation, &codec);
     let migrator = migrator.expect(rt, "memory");
-    is_migrated(rt, alloc, &migrator, row);
+    is_migrated(rt, alloc, &migrator, want);
 }
 
-fn migrates_as(
-    rt: &impl Abort,
-    alloc: Global,
-    old: &Accepted,
-    new: &Accepted,
-    row: (&str, &str, &str),
-) {
+fn migrates_as(rt: &impl Abort, alloc: Global, editions: &Editions, want: Moved<'_>) {
+    let Editions { old, new } = editions;
     let relation = relate(alloc, old, new).expect(rt, "editions of one category");
-    is_migrated_by(rt, alloc, old, new, &relation, row);
+    is_migrated_by(rt, alloc, editions, &relation, want);
 }
 
 fn migrates(
@@ -99,9 +91,9 @@ fn migrates(
     alloc: Global,
     &(old, new, input, made, lines): &(Edition, Edition, &str, &str, &str),
 ) {
-    let old = accepted(rt, alloc, old);
-    let new = accepted(rt, alloc, new);
-    migrates_as(rt, alloc, &old, &new, (input, made, lines));
+    let editions = both(rt, alloc, old, new);
+    let want = Moved { input, made, lines };
+    migrates_as(rt, alloc, &editions, want);
 }
 
 #[test]
@@ -116,9 +108,9 @@ fn parts_migrate(
     alloc: Global,
     &(old, new, input, made, lines): &(&str, &str, &str, &str, &str),
 ) {
-    let old = edition_of(rt, alloc, old);
-    let new = edition_of(rt, alloc, new);
-    migrates_as(rt, alloc, &old, &new, (input, made, lines));
+    let editions = editions_of(rt, alloc, old, new);
+    let want = Moved { input, made, lines };
+    migrates_as(rt, alloc, &editions, want);
 }
 
 #[test]

@@ -3,10 +3,9 @@ ghost use Rattle.std.specs.Prelude.{◌≡◌, ◌+◌};
 ghost use Rattle.ax_migrate_views.specs.Ranges.{HasRecords};
 ghost use Rattle.ax_relation.specs.Relates.{Relates};
 
-use crate::edition_fixtures::{Edition, accepted, same};
+use crate::edition_fixtures::{Edition, Editions, both, same};
 use crate::fixtures::{octets_of, raw_of};
 use ax_bits::Out;
-use ax_check::Accepted;
 use ax_edition::{Relation, relate};
 use ax_migrate_views::{Fit, Migrator};
 use ax_tables::compile;
@@ -18,23 +17,64 @@ use std::process::Abort;
 const LONGEST: u32 = 65_535;
 
 /// A block in hexadecimal: its first octets, how many times others follow, which these are, and its last octets.
-type Shape = (&'static str, usize, &'static str, &'static str);
+#[derive(Clone, Copy)]
+struct Shape {
+    front: &'static str,
+    times: usize,
+    unit: &'static str,
+    after: &'static str,
+}
 
 // Records with an item, and one without.
-const FEW: Shape = ("C9 00 0A 80 11 00 80 22 80 33", 0, "", "");
+const FEW: Shape = Shape {
+    front: "C9 00 0A 80 11 00 80 22 80 33",
+    times: 0,
+    unit: "",
+    after: "",
+};
 
-const MANY: Shape = ("C9 FF FF", 32_766, "80 01", "");
+const MANY: Shape = Shape {
+    front: "C9 FF FF",
+    times: 32_766,
+    unit: "80 01",
+    after: "",
+};
 
-const MANY_AFTER_TWO: Shape = ("C9 AA AD 00 00", 21_844, "80 01", "");
+const MANY_AFTER_TWO: Shape = Shape {
+    front: "C9 AA AD 00 00",
+    times: 21_844,
+    unit: "80 01",
+    after: "",
+};
 
-const LOSING: Shape = ("CA 00 0D 80 C0 11 22 33 80 C0 44 55 66", 0, "", "");
+const LOSING: Shape = Shape {
+    front: "CA 00 0D 80 C0 11 22 33 80 C0 44 55 66",
+    times: 0,
+    unit: "",
+    after: "",
+};
 
 // A record of many occurrences alone, before one of one octet, and behind one of two.
-const LONG: Shape = ("D0 FF FF 80", 65_530, "01", "00");
+const LONG: Shape = Shape {
+    front: "D0 FF FF 80",
+    times: 65_530,
+    unit: "01",
+    after: "00",
+};
 
-const LONG_FIRST: Shape = ("D0 FF FF 80", 65_529, "01", "00 00");
+const LONG_FIRST: Shape = Shape {
+    front: "D0 FF FF 80",
+    times: 65_529,
+    unit: "01",
+    after: "00 00",
+};
 
-const LONG_LAST: Shape = ("D0 FF FF 80 00 80", 65_528, "01", "00");
+const LONG_LAST: Shape = Shape {
+    front: "D0 FF FF 80 00 80",
+    times: 65_528,
+    unit: "01",
+    after: "00",
+};
 
 /// What is asked of the records of a view from one of them on, and the answer.
 #[derive(Clone, Copy)]
@@ -199,28 +239,30 @@ static ROWS: [(Edition, Edition, Shape, u32, Asked); 30] = [
 ];
 
 /// The octets of a block.
-fn block_of(rt: &impl Abort, alloc: Global, (front, times, unit, after): Shape) -> Vec<u8> {
-    let mut made = octets_of(rt, alloc, front);
-    let unit = octets_of(rt, alloc, unit);
-    for _ in 0..times {
+fn block_of(rt: &impl Abort, alloc: Global, shape: Shape) -> Vec<u8> {
+    let mut made = octets_of(rt, alloc, shape.front);
+    let unit = octets_of(rt, alloc, shape.unit);
+    for _ in 0..shape.times {
         made.extend_from_slice(&unit).expect(rt, "memory");
     }
-    let after = octets_of(rt, alloc, after);
+    let after = octets_of(rt, alloc, shape.after);
     made.extend_from_slice(&after).expect(rt, "memory");
     made
 }
 
-/// Asserts that a view has so many records from one of them on.
-fn has_records(
-    rt: &impl Abort,
-    migrator: &Migrator<'_>,
-    view: &BlockView<'_, '_>,
+/// Some of the records of a view: the number of the first one, and how many they are.
+#[derive(Clone, Copy)]
+struct Part {
     from: u32,
     count: u32,
-)
+}
+
+/// Asserts that a view has those records.
+fn has_records(rt: &impl Abort, migrator: &Migrator<'_>, view: &BlockView<'_, '_>, part: Part)
     requires view { view.now.codec.now ≡ migrator.now.codec.now }
-    ensures { HasRecords migrator.now view.now.body.now (from + count) }
+    ensures { HasRecords migrator.now view.now.body.now (part.from + part.count) }
 {
+    let Part { from, count } = part;
     let records = view.count();
     if records < from {
         panic!(rt; "{records} records, and not {from}");
@@ -234,23 +276,23 @@ fn has_records(
 fn fits_as(rt: &impl Abort, migrator: &Migrator<'_>, view: &BlockView<'_, '_>, from: u32, want: Fit)
     requires view { view.now.codec.now ≡ migrator.now.codec.now }
 {
-    has_records(rt, migrator, view, from, 1);
+    has_records(rt, migrator, view, Part { from, count: 1 });
     let got = migrator.fit(view, from);
     assert_eq!(rt; got, want, "from record {from} on");
 }
 
-/// Asserts that the block of some records of a view, from one of them on, has these octets, by both calls that lay it.
+/// Asserts that the block of some records of a view has these octets, by both calls that lay it.
 fn becomes(
     rt: &impl Abort,
     migrator: &Migrator<'_>,
     view: &BlockView<'_, '_>,
-    from: u32,
-    count: u32,
+    part: Part,
     made: &[u8],
 )
     requires view { view.now.codec.now ≡ migrator.now.codec.now }
 {
-    has_records(rt, migrator, view, from, count);
+    has_records(rt, migrator, view, part);
+    let Part { from, count } = part;
     if count == 0 {
         panic!(rt; "no records");
     }
@@ -267,66 +309,69 @@ fn becomes(
     same(rt, &buffer[..octets], made, "a range that is migrated");
 }
 
-/// Asserts what a view answers.
+/// A block, the number of one of its records, and what is asked from it on.
+#[derive(Clone, Copy)]
+struct Question {
+    block: Shape,
+    from: u32,
+    asked: Asked,
+}
+
+/// Asserts what the view of the block of a question answers.
 fn view_answers(
     rt: &impl Abort,
     alloc: Global,
     migrator: &Migrator<'_>,
     view: &BlockView<'_, '_>,
-    from: u32,
-    asked: Asked,
+    question: Question,
 )
     requires view { view.now.codec.now ≡ migrator.now.codec.now }
 {
-    match asked {
+    let from = question.from;
+    match question.asked {
         Asked::Fit(count, octets) => fits_as(rt, migrator, view, from, Fit { count, octets }),
         Asked::Block(count, made) => {
             let octets = octets_of(rt, alloc, made);
-            becomes(rt, migrator, view, from, count, &octets);
+            becomes(rt, migrator, view, Part { from, count }, &octets);
         }
     }
 }
 
-/// Asserts what the view of a block answers.
-fn block_answers(
-    rt: &impl Abort,
-    alloc: Global,
-    migrator: &Migrator<'_>,
-    row: (Shape, u32, Asked),
-) {
-    let (shape, from, asked) = row;
-    let octets = block_of(rt, alloc, shape);
-    let raw = raw_of(rt, &octets, shape.0);
+/// Asserts what a block answers.
+fn block_answers(rt: &impl Abort, alloc: Global, migrator: &Migrator<'_>, question: Question) {
+    let octets = block_of(rt, alloc, question.block);
+    let raw = raw_of(rt, &octets, question.block.front);
     let view = scan(migrator.old(), raw.body).expect(rt, "records");
-    view_answers(rt, alloc, migrator, &view, from, asked);
+    view_answers(rt, alloc, migrator, &view, question);
 }
 
-/// Asserts that of the view of a block of the old edition in the new one, by their relation.
+/// Asserts that of a block of the old edition in the new one, by their relation.
 fn editions_answer(
     rt: &impl Abort,
     alloc: Global,
-    old: &Accepted,
-    new: &Accepted,
+    editions: &Editions,
     relation: &Relation,
-    row: (Shape, u32, Asked),
+    question: Question,
 )
-    requires { Relates old.now new.now relation.now }
+    requires { Relates editions.now.old editions.now.new relation.now }
 {
+    let Editions { old, new } = editions;
     let codec = compile(alloc, old).expect(rt, "memory");
     let migrator = Migrator::new(alloc, old.spec(), new.spec(), relation, &codec);
     let migrator = migrator.expect(rt, "memory");
-    block_answers(rt, alloc, &migrator, row);
+    block_answers(rt, alloc, &migrator, question);
 }
 
 fn answers(
     rt: &impl Abort,
     alloc: Global,
-    &(old, new, shape, from, asked): &(Edition, Edition, Shape, u32, Asked),
+    &(old, new, block, from, asked): &(Edition, Edition, Shape, u32, Asked),
 ) {
-    let old = accepted(rt, alloc, old);
-    let new = accepted(rt, alloc, new);
-    let relation = relate(alloc, &old, &new).expect(rt, "editions of one category");
-    editions_answer(rt, alloc, &old, &new, &relation, (shape, from, asked));
+    let editions = both(rt, alloc, old, new);
+    let relation = relate(alloc, &editions.old, &editions.new);
+    let relation = relation.expect(rt, "editions of one category");
+    let question = Question { block, from, asked };
+    editions_answer(rt, alloc, &editions, &relation, question);
 }
 
 #[test]

@@ -76,17 +76,28 @@ fn record_of(rt: &impl Abort, alloc: Global, spec: &Spec, body: &[u8]) -> String
     }
 }
 
-// What the item and the record are read as, with a bar after each.
+/// A body, an item by its field reference number and the octet at which it begins, and what the item, the record and the body
+/// are read as, with a bar between.
+#[derive(Clone, Copy)]
+struct Reading {
+    body: &'static str,
+    frn: u32,
+    at: u32,
+    want: &'static str,
+}
+
+// What the item and the record of a body are read as, with a bar after each.
 fn item_and_record(
     rt: &impl Abort,
     alloc: Global,
     file: &Accepted,
-    (frn, at): (u32, u32),
+    one: &Reading,
     body: &[u8],
 ) -> String {
+    let at = one.at;
     assert!(rt; body.len() <= 65_532);
     assert!(rt; at as usize <= body.len());
-    let kind = kind_at(file.spec(), frn).expect(rt, "an item");
+    let kind = kind_at(file.spec(), one.frn).expect(rt, "an item");
     let mut text = value_at(rt, alloc, kind, body, at);
     push(rt, &mut text, " | ");
     push(
@@ -98,66 +109,74 @@ fn item_and_record(
     text
 }
 
-// Asserts what the item, the record and the body are read as, with a bar between.
-fn have_one_reading(
-    rt: &impl Abort,
-    alloc: Global,
-    file: &Accepted,
-    place: (u32, u32),
-    body: &str,
-    want: &str,
-) {
-    let octets = octets_of(rt, alloc, body);
+// Asserts what the item, the record and the body are read as.
+fn have_one_reading(rt: &impl Abort, alloc: Global, file: &Accepted, one: &Reading) {
+    let octets = octets_of(rt, alloc, one.body);
     let raw = raw(rt, 48, &octets);
-    let mut text = item_and_record(rt, alloc, file, place, &octets);
+    let mut text = item_and_record(rt, alloc, file, one, &octets);
     push(
         rt,
         &mut text,
-        read_both_ways(rt, alloc, file, &raw, body).as_str(),
+        read_both_ways(rt, alloc, file, &raw, one.body).as_str(),
     );
-    same(rt, text.as_str(), want, body);
+    same(rt, text.as_str(), one.want, one.body);
 }
 
-static READINGS: [(&str, u32, u32, &str); 8] = [
-    ("80 19", 1, 1, "RunsOut 8 | RunsOut 8 | RunsOut 8"),
-    (
-        "20 A1 00",
-        3,
-        1,
-        "<5 0 0 0 0|0 0 0 0 0> to 3 | {3=<5 0 0 0 0|0 0 0 0 0>} to 3 | 48 {3=<5 0 0 0 0|0 0 0 0 0>}",
-    ),
-    (
-        "20 A1 01",
-        3,
-        1,
-        "ExtensionPastEnd 23 | ExtensionPastEnd 23 | ExtensionPastEnd 23",
-    ),
-    (
-        "01 01 40 0B 0C",
-        16,
-        3,
-        "[5 6] to 5 | {16=[5 6]} to 5 | 48 {16=[5 6]}",
-    ),
-    ("01 20 00", 10, 2, "[] to 3 | {10=[]} to 3 | 48 {10=[]}"),
-    ("01 20 01", 10, 2, "RunsOut 24 | RunsOut 24 | RunsOut 24"),
-    (
-        "01 01 01 04 03 AA BB",
-        27,
-        4,
-        "xAA BB to 7 | {27=xAA BB} to 7 | 48 {27=xAA BB}",
-    ),
-    (
-        "01 01 01 04 00",
-        27,
-        4,
-        "BadExplicitLength 32 | BadExplicitLength 32 | BadExplicitLength 32",
-    ),
+static READINGS: [Reading; 8] = [
+    Reading {
+        body: "80 19",
+        frn: 1,
+        at: 1,
+        want: "RunsOut 8 | RunsOut 8 | RunsOut 8",
+    },
+    Reading {
+        body: "20 A1 00",
+        frn: 3,
+        at: 1,
+        want: "<5 0 0 0 0|0 0 0 0 0> to 3 | {3=<5 0 0 0 0|0 0 0 0 0>} to 3 | 48 {3=<5 0 0 0 0|0 0 0 0 0>}",
+    },
+    Reading {
+        body: "20 A1 01",
+        frn: 3,
+        at: 1,
+        want: "ExtensionPastEnd 23 | ExtensionPastEnd 23 | ExtensionPastEnd 23",
+    },
+    Reading {
+        body: "01 01 40 0B 0C",
+        frn: 16,
+        at: 3,
+        want: "[5 6] to 5 | {16=[5 6]} to 5 | 48 {16=[5 6]}",
+    },
+    Reading {
+        body: "01 20 00",
+        frn: 10,
+        at: 2,
+        want: "[] to 3 | {10=[]} to 3 | 48 {10=[]}",
+    },
+    Reading {
+        body: "01 20 01",
+        frn: 10,
+        at: 2,
+        want: "RunsOut 24 | RunsOut 24 | RunsOut 24",
+    },
+    Reading {
+        body: "01 01 01 04 03 AA BB",
+        frn: 27,
+        at: 4,
+        want: "xAA BB to 7 | {27=xAA BB} to 7 | 48 {27=xAA BB}",
+    },
+    Reading {
+        body: "01 01 01 04 00",
+        frn: 27,
+        at: 4,
+        want: "BadExplicitLength 32 | BadExplicitLength 32 | BadExplicitLength 32",
+    },
 ];
 
 fn each_has_one_reading(rt: &impl Abort, alloc: Global, text: &str) {
     let file = accepted(rt, alloc, text);
-    for &(body, frn, at, want) in &READINGS {
-        have_one_reading(rt, alloc, &file, (frn, at), body, want);
+    for one in &READINGS {
+        have_one_reading(rt, alloc, &file, one);
     }
 }
 

@@ -71,15 +71,51 @@ fn first_record<'c, 'a>(rt: &impl Abort, codec: &'c Codec, body: &'a [u8]) -> Re
     view.records().next().expect(rt, "a record")
 }
 
-// A number where one stands, and whether it is present; a part that isn't there has none.
-static NUMBERS: [(&str, &str, &str); 7] = [
-    ("30 00 06 20 A1 00", "020/TYP", "Some(5) true"),
-    ("30 00 06 20 A1 00", "020/TST", "Some(0) true"),
-    ("30 00 06 20 A1 80", "020/TST", "Some(1) true"),
-    ("30 00 05 20 A0", "020/TYP", "Some(5) true"),
-    ("30 00 05 20 A0", "020/TST", "None false"),
-    ("30 00 05 20 A0", "010/SAC", "None false"),
-    ("30 00 06 80 19 0C", "010/SIC", "Some(12) true"),
+/// A block, the path of an element, its number in the first record, where one stands, and whether it is present.
+#[derive(Clone, Copy)]
+struct Number {
+    block: &'static str,
+    path: &'static str,
+    want: &'static str,
+}
+
+// A part that isn't there has no number.
+static NUMBERS: [Number; 7] = [
+    Number {
+        block: "30 00 06 20 A1 00",
+        path: "020/TYP",
+        want: "Some(5) true",
+    },
+    Number {
+        block: "30 00 06 20 A1 00",
+        path: "020/TST",
+        want: "Some(0) true",
+    },
+    Number {
+        block: "30 00 06 20 A1 80",
+        path: "020/TST",
+        want: "Some(1) true",
+    },
+    Number {
+        block: "30 00 05 20 A0",
+        path: "020/TYP",
+        want: "Some(5) true",
+    },
+    Number {
+        block: "30 00 05 20 A0",
+        path: "020/TST",
+        want: "None false",
+    },
+    Number {
+        block: "30 00 05 20 A0",
+        path: "010/SAC",
+        want: "None false",
+    },
+    Number {
+        block: "30 00 06 80 19 0C",
+        path: "010/SIC",
+        want: "Some(12) true",
+    },
 ];
 
 /// The number at a place of a record, and whether the place is present.
@@ -98,10 +134,9 @@ fn number_told(
 fn has_number(
     rt: &impl Abort,
     alloc: Global,
-    (file, codec): (&Accepted, &Codec),
-    block: &str,
-    path: &str,
-    want: &str,
+    file: &Accepted,
+    codec: &Codec,
+    &Number { block, path, want }: &Number,
 ) {
     let place = place_of(rt, alloc, file, path);
     let octets = octets_of(rt, alloc, block);
@@ -114,8 +149,8 @@ fn has_number(
 fn each_has_its_number(rt: &impl Abort, alloc: Global, text: &str) {
     let file = accepted(rt, alloc, text);
     let codec = codec_of(rt, alloc, &file);
-    for &(block, path, want) in &NUMBERS {
-        has_number(rt, alloc, (&file, &codec), block, path, want);
+    for number in &NUMBERS {
+        has_number(rt, alloc, &file, &codec, number);
     }
 }
 

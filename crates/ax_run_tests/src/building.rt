@@ -1,6 +1,7 @@
 //! `build` over lines that are blocks' texts, and over lines that are not.
 
-use crate::world::{Left, Outside, bytes, leaves};
+use crate::repeated::Repeated;
+use crate::world::{Left, Outside, Run, bytes, leaves};
 use std::alloc::Global;
 use std::process::Abort;
 
@@ -197,14 +198,7 @@ static LINES: [(&str, &str, u8, &str, &str); 28] = [
 ];
 
 /// Builds lines, and asserts the status, the output in hexadecimal, the report and what is left of the input.
-fn builds(
-    rt: &impl Abort,
-    alloc: Global,
-    words: &str,
-    lines: &[u8],
-    outside: Outside,
-    want: (u8, &str, &str, usize),
-) {
+fn builds(rt: &impl Abort, alloc: Global, run: Run<&str, &[u8]>, want: (u8, &str, &str, usize)) {
     let (status, out, report, left) = want;
     let out = bytes(rt, alloc, out);
     let want = Left {
@@ -213,7 +207,7 @@ fn builds(
         report: report.as_bytes(),
         left,
     };
-    leaves(rt, alloc, words, lines, outside, want);
+    leaves(rt, alloc, run, want);
 }
 
 #[test]
@@ -221,58 +215,49 @@ fn blocks_of_lines(rt: HostRuntime) {
     let alloc = rt.alloc();
     for &(words, lines, status, out, report) in &LINES {
         let want = (status, out, report, 0);
-        builds(&rt, alloc, words, lines.as_bytes(), Outside::Sound, want);
+        builds(&rt, alloc, Run::sound(words, lines.as_bytes()), want);
     }
 }
 
-// A front, so many times a piece, and an end.
-fn repeated(
-    rt: &impl Abort,
-    alloc: Global,
-    front: &[u8],
-    count: u32,
-    piece: &[u8],
-    end: &[u8],
-) -> Vec<u8> {
-    let mut made = front.to_vec(alloc).expect(rt, "memory");
-    for _ in 0..count {
-        made.extend_from_slice(piece).expect(rt, "memory");
-    }
-    made.extend_from_slice(end).expect(rt, "memory");
-    made
-}
-
-// A front, the count of a piece, the piece, an end, the output in hexadecimal and the report.
-static LONG: [(&[u8], u32, &[u8], &[u8], &str, &str); 4] = [
+// The lines, the output in hexadecimal and the report.
+static LONG: [(Repeated<'_>, &str, &str); 4] = [
     (
-        b"block 048 {",
-        65_533,
-        b" record { }",
-        b" }",
+        Repeated {
+            front: b"block 048 {",
+            times: 65_533,
+            piece: b" record { }",
+            end: b" }",
+        },
         "",
         "refused line 0 TooLong 65536\n",
     ),
     (
-        b"opaque 062 \"",
-        65_533,
-        b"00",
-        b"\"",
+        Repeated {
+            front: b"opaque 062 \"",
+            times: 65_533,
+            piece: b"00",
+            end: b"\"",
+        },
         "",
         "refused line 0 TooLong 65536\n",
     ),
     (
-        b"",
-        16_777_217,
-        b" ",
-        b"",
+        Repeated {
+            front: b"",
+            times: 16_777_217,
+            piece: b" ",
+            end: b"",
+        },
         "",
         "refused line 0 LineTooLong\n",
     ),
     (
-        b"block 048 { record { } }\n",
-        16_777_217,
-        b" ",
-        b"",
+        Repeated {
+            front: b"block 048 { record { } }\n",
+            times: 16_777_217,
+            piece: b" ",
+            end: b"",
+        },
         "30 00 04 00",
         "refused line 1 LineTooLong\n",
     ),
@@ -281,23 +266,28 @@ static LONG: [(&[u8], u32, &[u8], &[u8], &str, &str); 4] = [
 #[test]
 fn blocks_and_lines_that_are_too_long(rt: HostRuntime) {
     let alloc = rt.alloc();
-    for &(front, count, piece, end, out, report) in &LONG {
-        let input = repeated(&rt, alloc, front, count, piece, end);
-        let want = (3, out, report, 0);
-        builds(&rt, alloc, "build 048", &input, Outside::Sound, want);
+    for &(lines, out, report) in &LONG {
+        let lines = lines.made(&rt, alloc);
+        let run = Run::sound("build 048", lines.as_slice());
+        builds(&rt, alloc, run, (3, out, report, 0));
     }
 }
 
 // The most octets of a line, its line feed aside.
-const LONGEST_LINE: u32 = 16_777_216;
+const LONGEST_LINE: usize = 16_777_216;
 
 #[test]
 fn a_line_of_the_most_octets_is_built(rt: HostRuntime) {
     let front = b"block 048 { record { } }";
-    let blanks = LONGEST_LINE - front.len() as u32;
-    let input = repeated(&rt, rt.alloc(), front, blanks, b" ", b"\n");
-    let want = (0, "30 00 04 00", "", 0);
-    builds(&rt, rt.alloc(), "build 048", &input, Outside::Sound, want);
+    let line = Repeated {
+        front,
+        times: LONGEST_LINE - front.len(),
+        piece: b" ",
+        end: b"\n",
+    };
+    let line = line.made(&rt, rt.alloc());
+    let run = Run::sound("build 048", line.as_slice());
+    builds(&rt, rt.alloc(), run, (0, "30 00 04 00", "", 0));
 }
 
 const THREE_LINES: &str = "opaque 062 \"80ff\"\n\nopaque 063 \"00\"\n";
@@ -313,18 +303,16 @@ static WRITTEN: [(usize, usize, &str); 3] = [
 #[test]
 fn a_failing_read_keeps_the_lines_before_it(rt: HostRuntime) {
     let alloc = rt.alloc();
-    let lines = THREE_LINES.as_bytes();
+    let input = THREE_LINES.as_bytes();
     for &(from, to, out) in &WRITTEN {
         for call in from..to {
             let want = (4, out, "fault read\n", 35 - call);
-            builds(
-                &rt,
-                alloc,
-                "build A",
-                lines,
-                Outside::OctetRead(call as u64),
-                want,
-            );
+            let run = Run {
+                words: "build A",
+                input,
+                outside: Outside::OctetRead(call as u64),
+            };
+            builds(&rt, alloc, run, want);
         }
     }
 }
@@ -332,13 +320,11 @@ fn a_failing_read_keeps_the_lines_before_it(rt: HostRuntime) {
 // Each block is one piece: of two blocks a second failing write leaves the first.
 #[test]
 fn a_block_is_one_piece(rt: HostRuntime) {
+    let run = Run {
+        words: "build A",
+        input: THREE_LINES.as_bytes(),
+        outside: Outside::Write(1),
+    };
     let want = (4, "3E 00 05 80 FF", "fault write\n", 0);
-    builds(
-        &rt,
-        rt.alloc(),
-        "build A",
-        THREE_LINES.as_bytes(),
-        Outside::Write(1),
-        want,
-    );
+    builds(&rt, rt.alloc(), run, want);
 }

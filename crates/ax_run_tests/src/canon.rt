@@ -1,6 +1,6 @@
 //! `canon` over inputs without fault and with one.
 
-use crate::world::{Left, Outside, bytes, leaves, leaves_octets};
+use crate::world::{Left, Outside, Run, bytes, leaves, leaves_octets};
 
 const NORTH: &str = "22 00 0A E0 19 0C 01 00 00 80";
 
@@ -128,7 +128,12 @@ static DONE: [(&str, &str, &str, Outside); 32] = [
 fn canonical_octets_of_inputs_without_fault(rt: HostRuntime) {
     let alloc = rt.alloc();
     for &(words, input, out, outside) in &DONE {
-        leaves_octets(&rt, alloc, words, input, outside, (0, out, "", 0));
+        let run = Run {
+            words,
+            input,
+            outside,
+        };
+        leaves_octets(&rt, alloc, run, (0, out, "", 0));
     }
 }
 
@@ -144,7 +149,7 @@ fn the_largest_block_is_unchanged(rt: HostRuntime) {
         report: b"",
         left: 0,
     };
-    leaves(&rt, alloc, "canon 048", &input, Outside::Sound, want);
+    leaves(&rt, alloc, Run::sound("canon 048", input.as_slice()), want);
 }
 
 // The words, the input, the output before the fault, the report, and how many octets aren't read.
@@ -319,6 +324,6 @@ fn the_first_fault_is_named_at_its_bit(rt: HostRuntime) {
     let alloc = rt.alloc();
     for &(words, input, out, report, left) in &REFUSED {
         let want = (3, out, report, left);
-        leaves_octets(&rt, alloc, words, input, Outside::Sound, want);
+        leaves_octets(&rt, alloc, Run::sound(words, input), want);
     }
 }

@@ -1,6 +1,6 @@
 //! `check`, refused files and refused words. None of these reads the input.
 
-use crate::world::{Left, Outside, bytes, leaves, leaves_octets};
+use crate::world::{Left, Outside, Run, bytes, leaves, leaves_octets};
 use ax_vectors::{CAT019_P1, FILE_E, FILE_W};
 use std::alloc::Global;
 use std::process::Abort;
@@ -53,7 +53,7 @@ fn refused_words_and_files(rt: HostRuntime) {
     let alloc = rt.alloc();
     for &(words, status, report) in &REFUSED {
         let want = (status, "", report, 10);
-        leaves_octets(&rt, alloc, words, INPUT, Outside::Sound, want);
+        leaves_octets(&rt, alloc, Run::sound(words, INPUT), want);
     }
 }
 
@@ -69,9 +69,17 @@ fn accepted(rt: &impl Abort, alloc: Global, line: &str, text: &str) -> Vec<u8> {
     made
 }
 
-/// Asserts that the words write the line and the text, and read no input.
-fn writes(rt: &impl Abort, alloc: Global, words: &str, outside: Outside, line: &str, text: &str) {
-    let out = accepted(rt, alloc, line, text);
+/// The words of a check, and the line and the text that it writes.
+#[derive(Clone, Copy)]
+struct Check {
+    words: &'static str,
+    line: &'static str,
+    text: &'static str,
+}
+
+/// Asserts that a check writes its line and its text, and reads no input.
+fn writes(rt: &impl Abort, alloc: Global, check: Check, outside: Outside) {
+    let out = accepted(rt, alloc, check.line, check.text);
     let input = bytes(rt, alloc, INPUT);
     let want = Left {
         status: 0,
@@ -79,23 +87,49 @@ fn writes(rt: &impl Abort, alloc: Global, words: &str, outside: Outside, line: &
         report: b"",
         left: 10,
     };
-    leaves(rt, alloc, words, &input, outside, want);
+    let run = Run {
+        words: check.words,
+        input: input.as_slice(),
+        outside,
+    };
+    leaves(rt, alloc, run, want);
 }
 
-// The words, and the line and the text that are written.
-static ACCEPTED: [(&str, &str, &str); 5] = [
-    ("check E", LINE_OF_E, FILE_E),
-    ("check commented", LINE_OF_E, FILE_E),
-    ("check largest", LINE_OF_E, FILE_E),
-    ("check 019", LINE_OF_019, CAT019_P1),
-    ("check W", LINE_OF_W, FILE_W),
+const CHECK_E: Check = Check {
+    words: "check E",
+    line: LINE_OF_E,
+    text: FILE_E,
+};
+
+static ACCEPTED: [Check; 5] = [
+    CHECK_E,
+    Check {
+        words: "check commented",
+        line: LINE_OF_E,
+        text: FILE_E,
+    },
+    Check {
+        words: "check largest",
+        line: LINE_OF_E,
+        text: FILE_E,
+    },
+    Check {
+        words: "check 019",
+        line: LINE_OF_019,
+        text: CAT019_P1,
+    },
+    Check {
+        words: "check W",
+        line: LINE_OF_W,
+        text: FILE_W,
+    },
 ];
 
 #[test]
 fn an_accepted_file_is_written_in_one_line(rt: HostRuntime) {
     let alloc = rt.alloc();
-    for &(words, line, text) in &ACCEPTED {
-        writes(&rt, alloc, words, Outside::Sound, line, text);
+    for &check in &ACCEPTED {
+        writes(&rt, alloc, check, Outside::Sound);
     }
 }
 
@@ -110,6 +144,6 @@ fn the_text_of_file_e_is_in_its_words(rt: HostRuntime) {
 fn check_loads_once_and_writes_once(rt: HostRuntime) {
     let alloc = rt.alloc();
     for outside in [Outside::Load(1), Outside::Write(1)] {
-        writes(&rt, alloc, "check E", outside, LINE_OF_E, FILE_E);
+        writes(&rt, alloc, CHECK_E, outside);
     }
 }

@@ -1,7 +1,7 @@
 //! `convert`: quantities of one edition in another, the lines of what is missed, and what stands where a call fails.
 
-use crate::migrating::repeated;
-use crate::world::{Left, Outside, bytes, leaves, leaves_octets};
+use crate::repeated::Repeated;
+use crate::world::{Left, Outside, Run, bytes, leaves, leaves_octets};
 
 const ONE: &str = "D1 00 06 80 01 00";
 
@@ -176,8 +176,14 @@ fn quantities_are_converted(rt: HostRuntime) {
     let alloc = rt.alloc();
     for &(words, input, out, report) in &CONVERTED {
         let want = (0, out, report, 0);
-        leaves_octets(&rt, alloc, words, input, Outside::Sound, want);
-        leaves_octets(&rt, alloc, words, input, Outside::OctetReads, want);
+        for outside in [Outside::Sound, Outside::OctetReads] {
+            let run = Run {
+                words,
+                input,
+                outside,
+            };
+            leaves_octets(&rt, alloc, run, want);
+        }
     }
 }
 
@@ -309,8 +315,12 @@ static RUNS: [(Outside, &str, &str, u8, &str, &str, usize); 13] = [
 fn runs_that_are_refused_or_fail(rt: HostRuntime) {
     let alloc = rt.alloc();
     for &(outside, words, input, status, out, report, left) in &RUNS {
-        let want = (status, out, report, left);
-        leaves_octets(&rt, alloc, words, input, outside, want);
+        let run = Run {
+            words,
+            input,
+            outside,
+        };
+        leaves_octets(&rt, alloc, run, (status, out, report, left));
     }
 }
 
@@ -326,8 +336,12 @@ fn each_octet_of_a_missed_line_fails_in_turn(rt: HostRuntime) {
             report: &MISSED.as_bytes()[..call.min(MISSED.len())],
             left: 6,
         };
-        let outside = Outside::OctetReport(call as u64);
-        leaves(&rt, alloc, "convert Y1 Y3", &input, outside, want);
+        let run = Run {
+            words: "convert Y1 Y3",
+            input: input.as_slice(),
+            outside: Outside::OctetReport(call as u64),
+        };
+        leaves(&rt, alloc, run, want);
     }
 }
 
@@ -382,24 +396,30 @@ fn long_records_are_converted_or_refused(rt: HostRuntime) {
     let alloc = rt.alloc();
     for &(front, times, status, made, count, last, report) in &LONG {
         let front = bytes(&rt, alloc, front);
-        let input = repeated(&rt, alloc, &front, times, &[0x01], &[0x00]);
+        let input = Repeated {
+            front: &front,
+            times,
+            piece: &[0x01],
+            end: &[0x00],
+        };
+        let input = input.made(&rt, alloc);
         let made = bytes(&rt, alloc, made);
         let last = bytes(&rt, alloc, last);
-        let out = repeated(&rt, alloc, &made, count, &[0x00, 0x01], &last);
+        let out = Repeated {
+            front: &made,
+            times: count,
+            piece: &[0x00, 0x01],
+            end: &last,
+        };
+        let out = out.made(&rt, alloc);
         let want = Left {
             status,
             out: &out,
             report: report.as_bytes(),
             left: 0,
         };
-        leaves(
-            &rt,
-            alloc,
-            "convert long-1 long-2",
-            &input,
-            Outside::Sound,
-            want,
-        );
+        let run = Run::sound("convert long-1 long-2", input.as_slice());
+        leaves(&rt, alloc, run, want);
     }
 }
 
@@ -407,13 +427,19 @@ fn long_records_are_converted_or_refused(rt: HostRuntime) {
 #[test]
 fn a_long_record_without_a_quantity_is_refused(rt: HostRuntime) {
     let alloc = rt.alloc();
-    let front = [0xD0, 0xFF, 0xFF, 0x80];
-    let input = repeated(&rt, alloc, &front, 65_530, &[0x01], &[0x00]);
+    let input = Repeated {
+        front: &[0xD0, 0xFF, 0xFF, 0x80],
+        times: 65_530,
+        piece: &[0x01],
+        end: &[0x00],
+    };
+    let input = input.made(&rt, alloc);
     let want = Left {
         status: 3,
         out: b"",
         report: b"refused block 0 MigratedTooLong 65536\n",
         left: 0,
     };
-    leaves(&rt, alloc, "convert J1 J2", &input, Outside::Sound, want);
+    let run = Run::sound("convert J1 J2", input.as_slice());
+    leaves(&rt, alloc, run, want);
 }

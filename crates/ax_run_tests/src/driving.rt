@@ -2,7 +2,7 @@
 ghost use Rattle.ax_app.specs.Working.{IsSoundJob};
 ghost use Rattle.ax_relation.specs.Relates.{Relates};
 
-use crate::migrating::{largest, moved};
+use crate::repeated::{largest, moved};
 use crate::specs::accepted;
 use crate::world::{bytes, failing, text_of};
 use ax_app::{DriveEnd, Job, Work, drive};

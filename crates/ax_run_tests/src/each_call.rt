@@ -1,6 +1,6 @@
 //! Each call of the outside refused in turn, by its number: what stands then.
 
-use crate::world::{Left, Outside, bytes, leaves};
+use crate::world::{Left, Outside, Run, bytes, leaves};
 use std::alloc::Global;
 use std::process::Abort;
 
@@ -305,7 +305,12 @@ fn each_fails(rt: &impl Abort, alloc: Global, row: &Row) {
     let out = row.out.made(rt, alloc);
     for call in 0..row.count {
         let want = left_at(row, call, &out);
-        leaves(rt, alloc, row.words, &input, outside(row.calls, call), want);
+        let run = Run {
+            words: row.words,
+            input: input.as_slice(),
+            outside: outside(row.calls, call),
+        };
+        leaves(rt, alloc, run, want);
     }
     let want = Left {
         status: 0,
@@ -313,14 +318,12 @@ fn each_fails(rt: &impl Abort, alloc: Global, row: &Row) {
         report: row.report.as_bytes(),
         left: row.left,
     };
-    leaves(
-        rt,
-        alloc,
-        row.words,
-        &input,
-        outside(row.calls, past(row)),
-        want,
-    );
+    let run = Run {
+        words: row.words,
+        input: input.as_slice(),
+        outside: outside(row.calls, past(row)),
+    };
+    leaves(rt, alloc, run, want);
 }
 
 #[test]

@@ -1,6 +1,6 @@
 //! `expand`: the lines of contents of RE, the files that are refused, and what stands where a call of the outside fails.
 
-use crate::world::{Left, Outside, bytes, leaves, leaves_text};
+use crate::world::{Left, Outside, Run, bytes, leaves, leaves_text};
 
 // The words, the input, the exit status, the output and the report. Each input is read to its end. RE of file 048 has field
 // reference number 28.
@@ -205,8 +205,14 @@ fn each_content_has_its_line(rt: HostRuntime) {
     let alloc = rt.alloc();
     for &(words, input, status, out, report) in &CONTENTS {
         let want = (status, out, report, 0);
-        leaves_text(&rt, alloc, words, input, Outside::Sound, want);
-        leaves_text(&rt, alloc, words, input, Outside::OctetReads, want);
+        for outside in [Outside::Sound, Outside::OctetReads] {
+            let run = Run {
+                words,
+                input,
+                outside,
+            };
+            leaves_text(&rt, alloc, run, want);
+        }
     }
 }
 
@@ -267,7 +273,7 @@ fn files_are_refused(rt: HostRuntime) {
     let alloc = rt.alloc();
     for &(words, status, report) in &FILES {
         let want = (status, "", report, 5);
-        leaves_text(&rt, alloc, words, "3E 00 05 80 FF", Outside::Sound, want);
+        leaves_text(&rt, alloc, Run::sound(words, "3E 00 05 80 FF"), want);
     }
 }
 
@@ -310,8 +316,12 @@ static FAILING: [(Outside, u8, &str, &str, usize); 4] = [
 fn the_outside_fails(rt: HostRuntime) {
     let alloc = rt.alloc();
     for &(outside, status, out, report, left) in &FAILING {
-        let want = (status, out, report, left);
-        leaves_text(&rt, alloc, "expand 048 T1", TWO_BLOCKS, outside, want);
+        let run = Run {
+            words: "expand 048 T1",
+            input: TWO_BLOCKS,
+            outside,
+        };
+        leaves_text(&rt, alloc, run, (status, out, report, left));
     }
 }
 
@@ -327,7 +337,11 @@ fn each_octet_of_a_line_fails_in_turn(rt: HostRuntime) {
             report: &UNREAD.as_bytes()[..call.min(UNREAD.len())],
             left: 10,
         };
-        let outside = Outside::OctetReport(call as u64);
-        leaves(&rt, alloc, "expand 048 T1", &input, outside, want);
+        let run = Run {
+            words: "expand 048 T1",
+            input: input.as_slice(),
+            outside: Outside::OctetReport(call as u64),
+        };
+        leaves(&rt, alloc, run, want);
     }
 }

@@ -1,6 +1,6 @@
 //! `filter` over inputs, and its refused expressions.
 
-use crate::world::{Outside, filter_leaves};
+use crate::world::{Filter, Outside, Run, filter_leaves};
 
 const SAC: &str = "30 00 06 80 19 0C";
 
@@ -56,8 +56,8 @@ static DONE: [(&str, &str, &str, &str); 14] = [
 fn the_records_that_match(rt: HostRuntime) {
     let alloc = rt.alloc();
     for &(expression, files, input, out) in &DONE {
-        let words = (expression, files);
-        filter_leaves(&rt, alloc, words, input, Outside::Sound, (0, out, "", 0));
+        let run = Run::sound(Filter { expression, files }, input);
+        filter_leaves(&rt, alloc, run, (0, out, "", 0));
     }
 }
 
@@ -123,9 +123,8 @@ static REFUSED: [(&str, &str, u8, &str); 13] = [
 fn refused_expressions(rt: HostRuntime) {
     let alloc = rt.alloc();
     for &(expression, files, status, report) in &REFUSED {
-        let words = (expression, files);
-        let want = (status, "", report, 6);
-        filter_leaves(&rt, alloc, words, SAC, Outside::Sound, want);
+        let run = Run::sound(Filter { expression, files }, SAC);
+        filter_leaves(&rt, alloc, run, (status, "", report, 6));
     }
 }
 
@@ -165,8 +164,12 @@ static FAILING: [(Outside, &str, &str, u8, &str, &str); 6] = [
 fn no_empty_piece_is_written(rt: HostRuntime) {
     let alloc = rt.alloc();
     for &(outside, expression, input, status, out, report) in &FAILING {
-        let words = (expression, "048");
-        let want = (status, out, report, 0);
-        filter_leaves(&rt, alloc, words, input, outside, want);
+        let files = "048";
+        let run = Run {
+            words: Filter { expression, files },
+            input,
+            outside,
+        };
+        filter_leaves(&rt, alloc, run, (status, out, report, 0));
     }
 }

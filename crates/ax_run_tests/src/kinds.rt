@@ -1,6 +1,6 @@
 //! Wide and closed items in each command: a counter of two octets, and a last part without FX.
 
-use crate::world::{Left, Outside, filter_leaves, leaves, leaves_octets, leaves_text};
+use crate::world::{Filter, Left, Run, filter_leaves, leaves, leaves_octets, leaves_text};
 use std::alloc::Global;
 use std::process::Abort;
 
@@ -172,7 +172,7 @@ fn octets_of_wide_and_closed_items(rt: HostRuntime) {
     let alloc = rt.alloc();
     for &(words, input, status, out, report) in &OCTETS {
         let want = (status, out, report, 0);
-        leaves_octets(&rt, alloc, words, input, Outside::Sound, want);
+        leaves_octets(&rt, alloc, Run::sound(words, input), want);
     }
 }
 
@@ -239,7 +239,7 @@ static LINES: [(&str, &str, &str); 11] = [
 fn lines_of_wide_and_closed_items(rt: HostRuntime) {
     let alloc = rt.alloc();
     for &(words, input, out) in &LINES {
-        leaves_text(&rt, alloc, words, input, Outside::Sound, (0, out, "", 0));
+        leaves_text(&rt, alloc, Run::sound(words, input), (0, out, "", 0));
     }
 }
 
@@ -271,14 +271,8 @@ fn bad_tokens_in_a_closed_item(rt: HostRuntime) {
             report: report.as_bytes(),
             left: 0,
         };
-        leaves(
-            &rt,
-            alloc,
-            words.as_str(),
-            line.as_bytes(),
-            Outside::Sound,
-            want,
-        );
+        let run = Run::sound(words.as_str(), line.as_bytes());
+        leaves(&rt, alloc, run, want);
     }
 }
 
@@ -312,8 +306,9 @@ static FILTERED: [(&str, &str, &str); 6] = [
 fn filtered_by_members_of_a_closed_item(rt: HostRuntime) {
     let alloc = rt.alloc();
     for &(expression, input, out) in &FILTERED {
-        let want = (0, out, "", 0);
-        filter_leaves(&rt, alloc, (expression, "W"), input, Outside::Sound, want);
+        let files = "W";
+        let run = Run::sound(Filter { expression, files }, input);
+        filter_leaves(&rt, alloc, run, (0, out, "", 0));
     }
 }
 
@@ -361,7 +356,7 @@ fn leave(
         report: report.as_bytes(),
         left: 0,
     };
-    leaves(rt, alloc, words, input, Outside::Sound, want);
+    leaves(rt, alloc, Run::sound(words, input), want);
 }
 
 /// The listing of a block of category 206 with so many occurrences of 7, of that many octets.

@@ -38,6 +38,8 @@ mod outcomes;
 #[cfg(test)]
 mod outside;
 #[cfg(test)]
+mod repeated;
+#[cfg(test)]
 mod salvaging;
 #[cfg(test)]
 mod specs;

@@ -1,8 +1,7 @@
 //! `migrate`: blocks of one edition in another, the lines of their losses, and what stands where a call fails.
 
-use crate::world::{Left, Outside, bytes, leaves, leaves_octets};
-use std::alloc::Global;
-use std::process::Abort;
+use crate::repeated::{Repeated, largest, moved};
+use crate::world::{Left, Outside, Run, bytes, leaves, leaves_octets};
 
 const PLOT: &str = "30 00 08 A0 19 0C A1 00";
 
@@ -222,8 +221,12 @@ static RUNS: [(Outside, &str, &str, u8, &str, &str, usize); 23] = [
 fn editions_of_one_category(rt: HostRuntime) {
     let alloc = rt.alloc();
     for &(outside, words, input, status, out, report, left) in &RUNS {
-        let want = (status, out, report, left);
-        leaves_octets(&rt, alloc, words, input, outside, want);
+        let run = Run {
+            words,
+            input,
+            outside,
+        };
+        leaves_octets(&rt, alloc, run, (status, out, report, left));
     }
 }
 
@@ -253,45 +256,13 @@ static CUT_LINES: [(u64, u8, &str, &str, usize); 5] = [
 fn lines_that_are_cut(rt: HostRuntime) {
     let alloc = rt.alloc();
     for &(call, status, out, report, left) in &CUT_LINES {
-        let outside = Outside::OctetReport(call);
-        let want = (status, out, report, left);
-        leaves_octets(&rt, alloc, "migrate H1 H2", FULL_TWICE, outside, want);
+        let run = Run {
+            words: "migrate H1 H2",
+            input: FULL_TWICE,
+            outside: Outside::OctetReport(call),
+        };
+        leaves_octets(&rt, alloc, run, (status, out, report, left));
     }
-}
-
-/// These octets, and then so many times others.
-pub(crate) fn repeated(
-    rt: &impl Abort,
-    alloc: Global,
-    front: &[u8],
-    times: usize,
-    octets: &[u8],
-    after: &[u8],
-) -> Vec<u8> {
-    let mut made = front.to_vec(alloc).expect(rt, "memory");
-    for _ in 0..times {
-        made.extend_from_slice(octets).expect(rt, "memory");
-    }
-    made.extend_from_slice(after).expect(rt, "memory");
-    made
-}
-
-/// The largest block of G1, whose records have one item of one octet, and these octets after it.
-pub(crate) fn largest(rt: &impl Abort, alloc: Global, after: &[u8]) -> Vec<u8> {
-    repeated(rt, alloc, &[0xC9, 0xFF, 0xFF], 32_766, &[0x80, 0x01], after)
-}
-
-/// A block of so many records of G2, with its LEN, and these octets after it.
-pub(crate) fn moved(
-    rt: &impl Abort,
-    alloc: Global,
-    len: [u8; 2],
-    records: usize,
-    after: &[u8],
-) -> Vec<u8> {
-    let [high, low] = len;
-    let head = [0xC9, high, low];
-    repeated(rt, alloc, &head, records, &[0x01, 0x80, 0x01], after)
 }
 
 // As many records as come into one block are written as one, and the others after them: all, up to a fault of the next block.
@@ -318,7 +289,12 @@ fn a_long_migrated_block_is_split(rt: HostRuntime) {
             report: report.as_bytes(),
             left: 0,
         };
-        leaves(&rt, alloc, "migrate G1 G2", &input, outside, want);
+        let run = Run {
+            words: "migrate G1 G2",
+            input: input.as_slice(),
+            outside,
+        };
+        leaves(&rt, alloc, run, want);
     }
 }
 
@@ -338,15 +314,21 @@ fn a_block_to_be_split_is_cut(rt: HostRuntime) {
     let alloc = rt.alloc();
     for &(records, after, report) in &CUT_BLOCKS {
         let after = bytes(&rt, alloc, after);
-        let head = [0xC9, 0xFF, 0xFF];
-        let input = repeated(&rt, alloc, &head, records, &[0x80, 0x01], &after);
+        let input = Repeated {
+            front: &[0xC9, 0xFF, 0xFF],
+            times: records,
+            piece: &[0x80, 0x01],
+            end: &after,
+        };
+        let input = input.made(&rt, alloc);
         let want = Left {
             status: 3,
             out: b"",
             report: report.as_bytes(),
             left: 0,
         };
-        leaves(&rt, alloc, "migrate G1 G2", &input, Outside::Sound, want);
+        let run = Run::sound("migrate G1 G2", input.as_slice());
+        leaves(&rt, alloc, run, want);
     }
 }
 
@@ -362,15 +344,25 @@ fn the_second_of_two_blocks_is_cut(rt: HostRuntime) {
         report: b"fault write\n",
         left: 0,
     };
-    leaves(&rt, alloc, "migrate G1 G2", &input, Outside::Write(1), want);
+    let run = Run {
+        words: "migrate G1 G2",
+        input: input.as_slice(),
+        outside: Outside::Write(1),
+    };
+    leaves(&rt, alloc, run, want);
 }
 
 // All lines come before the first octet of a block that is split.
 #[test]
 fn a_split_block_with_a_loss(rt: HostRuntime) {
     let alloc = rt.alloc();
-    let front = [0xC9, 0xFF, 0xFE, 0xC0, 0x01, 0x05];
-    let input = repeated(&rt, alloc, &front, 32_764, &[0x80, 0x01], &[]);
+    let input = Repeated {
+        front: &[0xC9, 0xFF, 0xFE, 0xC0, 0x01, 0x05],
+        times: 32_764,
+        piece: &[0x80, 0x01],
+        end: &[],
+    };
+    let input = input.made(&rt, alloc);
     let second = moved(&rt, alloc, [0x7F, 0xFE], 10_921, &[]);
     let both = moved(&rt, alloc, [0xFF, 0xFF], 21_844, second.as_slice());
     let whole = Left {
@@ -379,32 +371,49 @@ fn a_split_block_with_a_loss(rt: HostRuntime) {
         report: b"lost block 0 record 0 201/020\n",
         left: 0,
     };
-    leaves(&rt, alloc, "migrate G3 G2", &input, Outside::Sound, whole);
+    let run = Run::sound("migrate G3 G2", input.as_slice());
+    leaves(&rt, alloc, run, whole);
     let cut = Left {
         status: 4,
         out: b"",
         report: b"",
         left: 0,
     };
-    leaves(&rt, alloc, "migrate G3 G2", &input, Outside::Report(0), cut);
+    let run = Run {
+        words: "migrate G3 G2",
+        input: input.as_slice(),
+        outside: Outside::Report(0),
+    };
+    leaves(&rt, alloc, run, cut);
 }
 
 // One octet fewer than a block can have, and one record more.
 #[test]
 fn a_block_of_65534_octets_before_another(rt: HostRuntime) {
     let alloc = rt.alloc();
-    let front = [0xC9, 0xAA, 0xAD, 0x00, 0x00];
-    let input = repeated(&rt, alloc, &front, 21_844, &[0x80, 0x01], &[]);
+    let input = Repeated {
+        front: &[0xC9, 0xAA, 0xAD, 0x00, 0x00],
+        times: 21_844,
+        piece: &[0x80, 0x01],
+        end: &[],
+    };
+    let input = input.made(&rt, alloc);
     let second = moved(&rt, alloc, [0x00, 0x06], 1, &[]);
-    let head = [0xC9, 0xFF, 0xFE, 0x00, 0x00];
-    let both = repeated(&rt, alloc, &head, 21_843, &[0x01, 0x80, 0x01], &second);
+    let both = Repeated {
+        front: &[0xC9, 0xFF, 0xFE, 0x00, 0x00],
+        times: 21_843,
+        piece: &[0x01, 0x80, 0x01],
+        end: &second,
+    };
+    let both = both.made(&rt, alloc);
     let want = Left {
         status: 0,
         out: both.as_slice(),
         report: b"",
         left: 0,
     };
-    leaves(&rt, alloc, "migrate G1 G2", &input, Outside::Sound, want);
+    let run = Run::sound("migrate G1 G2", input.as_slice());
+    leaves(&rt, alloc, run, want);
 }
 
 // The octets before and after the occurrences of an item, how many there are, and the words; and the output and the report.
@@ -439,13 +448,19 @@ fn a_migrated_record_is_too_long(rt: HostRuntime) {
     for &(front, times, words, out, report) in &TOO_LONG {
         let front = bytes(&rt, alloc, front);
         let out = bytes(&rt, alloc, out);
-        let input = repeated(&rt, alloc, &front, times, &[0x01], &[0x00]);
+        let input = Repeated {
+            front: &front,
+            times,
+            piece: &[0x01],
+            end: &[0x00],
+        };
+        let input = input.made(&rt, alloc);
         let want = Left {
             status: 3,
             out: out.as_slice(),
             report: report.as_bytes(),
             left: 0,
         };
-        leaves(&rt, alloc, words, &input, Outside::Sound, want);
+        leaves(&rt, alloc, Run::sound(words, input.as_slice()), want);
     }
 }

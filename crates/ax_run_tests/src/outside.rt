@@ -1,6 +1,6 @@
 //! Faults of the outside: each call that fails, and outputs that are too small.
 
-use crate::world::{Outside, leaves_octets};
+use crate::world::{Outside, Run, leaves_octets};
 
 const NORTH: &str = "22 00 0A E0 19 0C 01 00 00 80";
 
@@ -117,7 +117,11 @@ static FAILING: [(Outside, &str, &str, u8, &str, &str, usize); 19] = [
 fn failing_calls_and_outputs_that_are_too_small(rt: HostRuntime) {
     let alloc = rt.alloc();
     for &(outside, words, input, status, out, report, left) in &FAILING {
-        let want = (status, out, report, left);
-        leaves_octets(&rt, alloc, words, input, outside, want);
+        let run = Run {
+            words,
+            input,
+            outside,
+        };
+        leaves_octets(&rt, alloc, run, (status, out, report, left));
     }
 }

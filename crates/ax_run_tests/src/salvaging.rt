@@ -1,7 +1,7 @@
 //! `salvage`: what is written and reported of a damaged stream, and what stands where a call of the outside fails.
 
 use crate::specs::accepted;
-use crate::world::{Left, Outside, bytes, leaves, leaves_octets, text_of};
+use crate::world::{Left, Outside, Run, bytes, leaves, leaves_octets, text_of};
 use ax_check::Catalogue;
 use ax_outside::{MemSink, MemSource};
 use ax_salvage::{Salvage, SalvageEnd, Tally, salvage};
@@ -108,7 +108,7 @@ fn a_damaged_body_costs_its_own_block_alone(rt: HostRuntime) {
     let alloc = rt.alloc();
     for &(words, input, status, out, report) in &STREAMS {
         let want = (status, out, report, 0);
-        leaves_octets(&rt, alloc, words, input, Outside::Sound, want);
+        leaves_octets(&rt, alloc, Run::sound(words, input), want);
     }
 }
 
@@ -123,30 +123,30 @@ const LINE: &str = "refused block 1 bit 32 RunsOut\n";
 
 const LINES: &str = "refused block 1 bit 32 RunsOut\nsalvaged 048 written 2 refused 1\n";
 
-// Asserts what is left of the three blocks: so many octets of the sound ones, this report, and so many octets not read.
-fn stands(
-    rt: &impl Abort,
-    alloc: Global,
-    outside: Outside,
+/// What is left of the three blocks where a call fails: so many octets of the sound ones, a report, and so many octets not read.
+#[derive(Clone, Copy)]
+struct Standing<'r> {
     written: usize,
-    report: &[u8],
+    report: &'r [u8],
     left: usize,
-) {
+}
+
+// Asserts what is left of the three blocks.
+fn stands(rt: &impl Abort, alloc: Global, outside: Outside, want: Standing<'_>) {
+    let input = bytes(rt, alloc, DAMAGED);
+    let run = Run {
+        words: "salvage 048",
+        input: input.as_slice(),
+        outside,
+    };
     let out = bytes(rt, alloc, SOUND);
     let want = Left {
         status: 4,
-        out: &out[..written.min(out.len())],
-        report,
-        left,
+        out: &out[..want.written.min(out.len())],
+        report: want.report,
+        left: want.left,
     };
-    leaves(
-        rt,
-        alloc,
-        "salvage 048",
-        &bytes(rt, alloc, DAMAGED),
-        outside,
-        want,
-    );
+    leaves(rt, alloc, run, want);
 }
 
 // The first octets of the report where a read or a write failed, and the line of that.
@@ -167,8 +167,12 @@ fn each_read_fails_in_turn(rt: HostRuntime) {
         };
         let line = if call < 11 { "" } else { LINE };
         let report = report_of(&rt, alloc, line, "fault read\n");
-        let outside = Outside::OctetRead(call as u64);
-        stands(&rt, alloc, outside, written, report.as_bytes(), 15 - call);
+        let want = Standing {
+            written,
+            report: report.as_bytes(),
+            left: 15 - call,
+        };
+        stands(&rt, alloc, Outside::OctetRead(call as u64), want);
     }
 }
 
@@ -179,8 +183,12 @@ fn each_write_fails_in_turn(rt: HostRuntime) {
     for call in 0..10usize {
         let (line, left) = if call < 6 { ("", 9) } else { (LINE, 0) };
         let report = report_of(&rt, alloc, line, "fault write\n");
-        let outside = Outside::OctetWrite(call as u64);
-        stands(&rt, alloc, outside, call, report.as_bytes(), left);
+        let want = Standing {
+            written: call,
+            report: report.as_bytes(),
+            left,
+        };
+        stands(&rt, alloc, Outside::OctetWrite(call as u64), want);
     }
 }
 
@@ -190,9 +198,12 @@ fn each_octet_of_the_lines_fails_in_turn(rt: HostRuntime) {
     let alloc = rt.alloc();
     for call in 0..64usize {
         let (written, left) = if call < 31 { (6, 4) } else { (10, 0) };
-        let report = &LINES.as_bytes()[..call.min(LINES.len())];
-        let outside = Outside::OctetReport(call as u64);
-        stands(&rt, alloc, outside, written, report, left);
+        let want = Standing {
+            written,
+            report: &LINES.as_bytes()[..call.min(LINES.len())],
+            left,
+        };
+        stands(&rt, alloc, Outside::OctetReport(call as u64), want);
     }
 }
 

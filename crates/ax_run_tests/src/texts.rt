@@ -1,6 +1,6 @@
 //! `text` and `show` over inputs without fault and with one.
 
-use crate::world::{Outside, leaves_text};
+use crate::world::{Outside, Run, leaves_text};
 
 // The words, the input, the exit status, the output and the report. Each input is read to its end.
 static LINES: [(&str, &str, u8, &str, &str); 10] = [
@@ -69,14 +69,18 @@ fn lines_of_each_block(rt: HostRuntime) {
     let alloc = rt.alloc();
     for &(words, input, status, out, report) in &LINES {
         let want = (status, out, report, 0);
-        leaves_text(&rt, alloc, words, input, Outside::Sound, want);
+        leaves_text(&rt, alloc, Run::sound(words, input), want);
     }
 }
 
 // A line is one piece: of two blocks' lines a second failing write leaves the first.
 #[test]
 fn a_line_is_one_piece(rt: HostRuntime) {
-    let input = "3E 00 05 80 FF 3E 00 04 01";
+    let run = Run {
+        words: "text A",
+        input: "3E 00 05 80 FF 3E 00 04 01",
+        outside: Outside::Write(1),
+    };
     let want = (4, "opaque 062 \"80ff\"\n", "fault write\n", 0);
-    leaves_text(&rt, rt.alloc(), "text A", input, Outside::Write(1), want);
+    leaves_text(&rt, rt.alloc(), run, want);
 }

@@ -1,8 +1,6 @@
 //! Words that ask for no input, and words that ask for nothing.
 
-use crate::world::{Left, Outside, leaves};
-use std::alloc::Global;
-use std::process::Abort;
+use crate::world::{Left, Run, leaves};
 
 const HELP: &str =
     "asterix check SPEC\nasterix canon SPEC...\nasterix show SPEC...\nasterix text SPEC...\nasterix build SPEC...\nasterix filter EXPR SPEC...\nasterix migrate OLD NEW\nasterix trial SPEC SEED COUNT\nasterix salvage SPEC...\nasterix expand SPEC EXPANSION\nasterix convert OLD NEW\n";
@@ -40,20 +38,16 @@ static WORDS: [(&str, u8, &str, &str); 21] = [
 
 const INPUT: &[u8] = b"\x3e\x00\x05\x80\xff";
 
-fn ends(rt: &impl Abort, alloc: Global, words: &str, status: u8, out: &str, report: &str) {
-    let want = Left {
-        status,
-        out: out.as_bytes(),
-        report: report.as_bytes(),
-        left: 5,
-    };
-    leaves(rt, alloc, words, INPUT, Outside::Sound, want);
-}
-
 #[test]
 fn words_alone(rt: HostRuntime) {
     let alloc = rt.alloc();
     for &(words, status, out, report) in &WORDS {
-        ends(&rt, alloc, words, status, out, report);
+        let want = Left {
+            status,
+            out: out.as_bytes(),
+            report: report.as_bytes(),
+            left: 5,
+        };
+        leaves(&rt, alloc, Run::sound(words, INPUT), want);
     }
 }

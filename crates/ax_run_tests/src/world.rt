@@ -171,6 +171,32 @@ fn report_of(rt: &impl Abort, alloc: Global, outside: Outside) -> MemSink {
     MemSink::new(alloc, room, largest, failing).expect(rt, "memory")
 }
 
+/// A run: its words, its input, and how its outside is cut or fails.
+#[derive(Clone, Copy)]
+pub struct Run<W, I> {
+    pub words: W,
+    pub input: I,
+    pub outside: Outside,
+}
+
+impl<W, I> Run<W, I> {
+    /// A run of which no call is cut or fails.
+    pub fn sound(words: W, input: I) -> Self {
+        Run {
+            words,
+            input,
+            outside: Outside::Sound,
+        }
+    }
+}
+
+/// The words of `filter`: an expression, which is one word, and files, which have blanks between them.
+#[derive(Clone, Copy)]
+pub struct Filter<'f> {
+    pub expression: &'f str,
+    pub files: &'f str,
+}
+
 /// What a run leaves: its exit status, what stands on both outputs, and how many octets of the input were not
 /// read.
 #[derive(Clone, Copy, Debug, PartialEq, Eq)]
@@ -205,18 +231,11 @@ fn put(
     files.push((name, octets)).expect(rt, "memory");
 }
 
-/// Puts a text, with blanks at its end up to that count of octets.
-fn put_padded(
-    rt: &impl Abort,
-    alloc: Global,
-    files: &mut Vec<(String, Vec<u8>)>,
-    name: &str,
-    text: &str,
-    count: usize,
-) {
+/// A text, with blanks at its end up to that count of octets.
+fn padded(rt: &impl Abort, alloc: Global, text: &str, count: usize) -> Vec<u8> {
     let mut octets = text.as_bytes().to_vec(alloc).expect(rt, "memory");
     octets.resize(count, b' ').expect(rt, "memory");
-    put(rt, alloc, files, name, octets);
+    octets
 }
 
 static TEXTS: [(&str, &str); 32] = [
@@ -292,8 +311,10 @@ fn texts(rt: &impl Abort, alloc: Global) -> Vec<(String, Vec<u8>)> {
 fn files(rt: &impl Abort, alloc: Global) -> Vec<(String, Vec<u8>)> {
     let mut made = texts(rt, alloc);
     put(rt, alloc, &mut made, "commented", commented(rt, alloc));
-    put_padded(rt, alloc, &mut made, "largest", FILE_E, LARGEST);
-    put_padded(rt, alloc, &mut made, "large", "", TOO_LARGE);
+    let largest = padded(rt, alloc, FILE_E, LARGEST);
+    put(rt, alloc, &mut made, "largest", largest);
+    let large = padded(rt, alloc, "", TOO_LARGE);
+    put(rt, alloc, &mut made, "large", large);
     made
 }
 
@@ -338,12 +359,15 @@ fn world_of(rt: &impl Abort, alloc: Global, outside: Outside, input: &[u8]) -> W
 fn world_leaves(
     rt: &impl Abort,
     alloc: Global,
-    words: &Vec<String>,
-    input: &[u8],
-    outside: Outside,
+    one: Run<&Vec<String>, &[u8]>,
     world: &mut World,
     want: Left<'_>,
 ) {
+    let Run {
+        words,
+        input,
+        outside,
+    } = one;
     let outcome = run(
         alloc,
         words,
@@ -362,30 +386,21 @@ fn world_leaves(
 }
 
 /// Runs the words over this input, and asserts that the run leaves what is wanted.
-fn words_leave(
-    rt: &impl Abort,
-    alloc: Global,
-    words: &Vec<String>,
-    input: &[u8],
-    outside: Outside,
-    want: Left<'_>,
-) {
-    let mut world = world_of(rt, alloc, outside, input);
-    world_leaves(rt, alloc, words, input, outside, &mut world, want);
+fn words_leave(rt: &impl Abort, alloc: Global, one: Run<&Vec<String>, &[u8]>, want: Left<'_>) {
+    let mut world = world_of(rt, alloc, one.outside, one.input);
+    world_leaves(rt, alloc, one, &mut world, want);
 }
 
 /// Runs the words, which have blanks between them, over this input, and asserts that the run leaves what is wanted.
-pub fn leaves(
-    rt: &impl Abort,
-    alloc: Global,
-    words: &str,
-    input: &[u8],
-    outside: Outside,
-    want: Left<'_>,
-) {
-    let mut each = Vec::new(alloc);
-    push_words(rt, alloc, &mut each, words);
-    words_leave(rt, alloc, &each, input, outside, want);
+pub fn leaves(rt: &impl Abort, alloc: Global, one: Run<&str, &[u8]>, want: Left<'_>) {
+    let mut words = Vec::new(alloc);
+    push_words(rt, alloc, &mut words, one.words);
+    let one = Run {
+        words: &words,
+        input: one.input,
+        outside: one.outside,
+    };
+    words_leave(rt, alloc, one, want);
 }
 
 /// The same where the input and the output are in hexadecimal: what is left is a status, the output, the report, and how
@@ -393,12 +408,10 @@ pub fn leaves(
 pub fn leaves_octets(
     rt: &impl Abort,
     alloc: Global,
-    words: &str,
-    input: &str,
-    outside: Outside,
+    one: Run<&str, &str>,
     (status, out, report, left): (u8, &str, &str, usize),
 ) {
-    let input = bytes(rt, alloc, input);
+    let input = bytes(rt, alloc, one.input);
     let out = bytes(rt, alloc, out);
     let want = Left {
         status,
@@ -406,49 +419,54 @@ pub fn leaves_octets(
         report: report.as_bytes(),
         left,
     };
-    leaves(rt, alloc, words, &input, outside, want);
+    let one = Run {
+        words: one.words,
+        input: input.as_slice(),
+        outside: one.outside,
+    };
+    leaves(rt, alloc, one, want);
 }
 
 /// The same where the input is in hexadecimal, and the output is a text.
 pub fn leaves_text(
     rt: &impl Abort,
     alloc: Global,
-    words: &str,
-    input: &str,
-    outside: Outside,
+    one: Run<&str, &str>,
     (status, out, report, left): (u8, &str, &str, usize),
 ) {
-    let input = bytes(rt, alloc, input);
+    let input = bytes(rt, alloc, one.input);
     let want = Left {
         status,
         out: out.as_bytes(),
         report: report.as_bytes(),
         left,
     };
-    leaves(rt, alloc, words, &input, outside, want);
+    let one = Run {
+        words: one.words,
+        input: input.as_slice(),
+        outside: one.outside,
+    };
+    leaves(rt, alloc, one, want);
 }
 
-fn filter_words(rt: &impl Abort, alloc: Global, expression: &str, files: &str) -> Vec<String> {
+fn filter_words(rt: &impl Abort, alloc: Global, filter: Filter<'_>) -> Vec<String> {
     let mut words = Vec::new(alloc);
     push_words(rt, alloc, &mut words, "filter");
-    let expression = String::from_str(alloc, expression).expect(rt, "memory");
+    let expression = String::from_str(alloc, filter.expression).expect(rt, "memory");
     words.push(expression).expect(rt, "memory");
-    push_words(rt, alloc, &mut words, files);
+    push_words(rt, alloc, &mut words, filter.files);
     words
 }
 
-/// Runs `filter` with that expression, which is one word, and with files, which have blanks between them, over an input in
-/// hexadecimal, and asserts that the run leaves what is wanted, as `leaves_octets` does.
+/// Runs `filter` over an input in hexadecimal, and asserts that the run leaves what is wanted, as `leaves_octets` does.
 pub fn filter_leaves(
     rt: &impl Abort,
     alloc: Global,
-    (expression, files): (&str, &str),
-    input: &str,
-    outside: Outside,
+    one: Run<Filter<'_>, &str>,
     (status, out, report, left): (u8, &str, &str, usize),
 ) {
-    let words = filter_words(rt, alloc, expression, files);
-    let input = bytes(rt, alloc, input);
+    let words = filter_words(rt, alloc, one.words);
+    let input = bytes(rt, alloc, one.input);
     let out = bytes(rt, alloc, out);
     let want = Left {
         status,
@@ -456,5 +474,10 @@ pub fn filter_leaves(
         report: report.as_bytes(),
         left,
     };
-    words_leave(rt, alloc, &words, &input, outside, want);
+    let one = Run {
+        words: &words,
+        input: input.as_slice(),
+        outside: one.outside,
+    };
+    words_leave(rt, alloc, one, want);
 }

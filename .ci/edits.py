@@ -6,7 +6,7 @@ import sys
 TOP = pathlib.Path(__file__).resolve().parent.parent
 failed = False
 for edit in sorted((TOP / ".ci/edits").glob("*/*.edit")):
-    path, old, texts = "", "", {}
+    path, old, texts, pairs = "", "", {}, 0
     for line in edit.read_text().split("\n"):
         if line.startswith("file: "):
             path = line.removeprefix("file: ")
@@ -19,4 +19,8 @@ for edit in sorted((TOP / ".ci/edits").glob("*/*.edit")):
                 print(f"checks: .ci/edits/{edit.parent.name}/{edit.name} replaces a text that stands {text.count(old)} times in {path}", file=sys.stderr)
                 failed = True
             texts[path] = text.replace(old, line.removeprefix("new:").removeprefix(" "))
+            pairs += texts[path] != text
+    if pairs == 0:
+        print(f"checks: .ci/edits/{edit.parent.name}/{edit.name} changes nothing", file=sys.stderr)
+        failed = True
 sys.exit(failed)

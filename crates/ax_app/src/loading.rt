@@ -14,7 +14,6 @@ use std::alloc::Global;
 use std::slice;
 
 /// What the files of a command are loaded into.
-#[derive(Drop)]
 pub enum Loaded {
     /// Specifications of distinct categories.
     Catalogue(Catalogue),
@@ -22,6 +21,17 @@ pub enum Loaded {
     Editions(Accepted, Accepted),
     /// A specification, and an expansion by which its RE is read.
     WithExpansion(Accepted, AcceptedExpansion),
+}
+
+// By hand, so that it is one function: derived, the ends of all that a file is loaded into would stand where such a value goes.
+impl Drop for Loaded {
+    fn drop(self) {
+        match self {
+            Loaded::Catalogue(_catalogue) => {}
+            Loaded::Editions(_old, _new) => {}
+            Loaded::WithExpansion(_spec, _expansion) => {}
+        }
+    }
 }
 
 /// The names of the files of a command that takes a catalogue.

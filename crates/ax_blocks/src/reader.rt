@@ -18,12 +18,22 @@ pub enum EndedBlocks {
 }
 
 /// A reader of data blocks, with room for the longest one.
-#[derive(Drop)]
 pub struct BlockReader {
     buffer: Vec<u8>,
     limit: u64,
     given: u64,
     ended: Option<EndedBlocks>,
+}
+
+impl Drop for BlockReader {
+    fn drop(self) {
+        let BlockReader {
+            buffer: _buffer,
+            limit: _limit,
+            given: _given,
+            ended: _ended,
+        } = self;
+    }
 }
 
 impl Model for BlockReader {

@@ -21,7 +21,6 @@ use std::alloc::Global;
 const ROOM: usize = 66_560;
 
 /// `build` under a catalogue.
-#[derive(Drop)]
 struct BuildWork<'c> {
     alloc: Global,
     items: CatalogueItems<'c>,
@@ -30,6 +29,18 @@ struct BuildWork<'c> {
     octets: Vec<u8>,
     /// Where the body of a block is laid while its line is read.
     room: Vec<u8>,
+}
+
+impl Drop for BuildWork<'_> {
+    fn drop(self) {
+        let BuildWork {
+            alloc: _alloc,
+            items: _items,
+            tables: _tables,
+            octets: _octets,
+            room: _room,
+        } = self;
+    }
 }
 
 impl<'c> LineWork for BuildWork<'c> {

@@ -17,13 +17,22 @@ use std::alloc::{AllocError, Global};
 
 /// `canon` under a catalogue, by the codecs of its specifications. A block is judged and written by walking its octets;
 /// what is written stands in one output, as long as the longest block.
-#[derive(Drop)]
 pub struct CanonViews<'c> {
     /// What the codecs stand for: contracts speak of it, the code doesn't.
     catalogue: &'c Catalogue,
     rows: CategoryRows<'c>,
     output: Vec<u8>,
     ghost room: { length output.items ≡ longest_block },
+}
+
+impl Drop for CanonViews<'_> {
+    fn drop(self) {
+        let CanonViews {
+            catalogue: _catalogue,
+            rows: _rows,
+            output: _output,
+        } = self;
+    }
 }
 
 impl<'c> CanonViews<'c> {

@@ -10,9 +10,14 @@ use std::marker::Model;
 use thiserror::Error;
 
 /// A specification without flaw. Contracts see it as that specification.
-#[derive(Drop)]
 pub struct Accepted {
     spec: Spec,
+}
+
+impl Drop for Accepted {
+    fn drop(self) {
+        let Accepted { spec: _spec } = self;
+    }
 }
 
 impl Model for Accepted {

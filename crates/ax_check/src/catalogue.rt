@@ -18,9 +18,14 @@ const MOST: usize = 4_294_967_295;
 
 /// Accepted specifications, at most one for each category, in the order of insertion. Contracts see them as that
 /// list.
-#[derive(Drop)]
 pub struct Catalogue {
     specs: IndexMap<u8, Accepted>,
+}
+
+impl Drop for Catalogue {
+    fn drop(self) {
+        let Catalogue { specs: _specs } = self;
+    }
 }
 
 impl Model for Catalogue {

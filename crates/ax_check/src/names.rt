@@ -8,9 +8,14 @@ use indexmap::IndexSet;
 use std::alloc::{AllocError, Global};
 
 /// Names, each once.
-#[derive(Drop)]
 pub(crate) struct Names<'s> {
     set: IndexSet<&'s [u8]>,
+}
+
+impl Drop for Names<'_> {
+    fn drop(self) {
+        let Names { set: _set } = self;
+    }
 }
 
 impl<'s> Names<'s> {

@@ -12,7 +12,6 @@ use ax_fspec::SlotMask;
 ///
 /// Each link of a node leads to a node before it, and each link of `slots` to a node that is there. Widths are in bits,
 /// without FX.
-#[derive(Drop)]
 pub struct Codec {
     pub category: u8,
     /// The slots of a record that aren't spare.
@@ -23,6 +22,17 @@ pub struct Codec {
     ghost table: { IsTable nodes } by { IsTable-prop nodes },
     ghost records: { IsRecordTable nodes slots mask } by { IsRecordTable-prop nodes slots mask },
     ghost stands: { StandsForSome category slots nodes },
+}
+
+impl Drop for Codec {
+    fn drop(self) {
+        let Codec {
+            category: _category,
+            mask: _mask,
+            slots: _slots,
+            nodes: _nodes,
+        } = self;
+    }
 }
 
 impl Codec {

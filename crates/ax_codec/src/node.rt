@@ -25,7 +25,6 @@ pub type Links = Sequence<u32>;
 /// The nodes of a table, in order. Contracts see that list alone; how many octets each fixed kind has stands beside it,
 /// so that octets are walked over without a look at the node, and so do the rows of a set of slots, by which records are, and
 /// those of compounds.
-#[derive(Drop)]
 pub struct Nodes {
     items: Vec<Node>,
     octets: Vec<u32>,
@@ -34,6 +33,18 @@ pub struct Nodes {
     compounds: Vec<SlotRows>,
     /// By node how far its values reach.
     extents: Vec<Extent>,
+}
+
+impl Drop for Nodes {
+    fn drop(self) {
+        let Nodes {
+            items: _items,
+            octets: _octets,
+            rows: _rows,
+            compounds: _compounds,
+            extents: _extents,
+        } = self;
+    }
 }
 
 impl Model for Nodes {
@@ -158,7 +169,6 @@ impl Nodes {
 }
 
 /// A kind, or a part of one. Widths are in bits, without FX.
-#[derive(Drop)]
 pub enum Node {
     /// An element, or spare bits.
     Element { width: u32 },
@@ -176,6 +186,36 @@ pub enum Node {
     Explicit,
     /// Subitems after a presence field; the mask has the slots that aren't spare.
     Compound { mask: SlotMask, slots: Links },
+}
+
+impl Drop for Node {
+    fn drop(self) {
+        match self {
+            Node::Element { width: _width } => {}
+            Node::Group {
+                width: _width,
+                members: _members,
+            } => {}
+            Node::Part {
+                width: _width,
+                members: _members,
+            } => {}
+            Node::Extended {
+                last: _last,
+                parts: _parts,
+            } => {}
+            Node::Counted {
+                counter: _counter,
+                inner: _inner,
+            } => {}
+            Node::ByFx { inner: _inner } => {}
+            Node::Explicit => {}
+            Node::Compound {
+                mask: _mask,
+                slots: _slots,
+            } => {}
+        }
+    }
 }
 
 impl Node {

@@ -125,10 +125,18 @@ pub(crate) fn accepted(rt: &impl Abort, alloc: Global, edition: Edition) -> Acce
 }
 
 /// The specifications of two editions of a category.
-#[derive(Drop)]
 pub(crate) struct Editions {
     pub(crate) old: Accepted,
     pub(crate) new: Accepted,
+}
+
+impl Drop for Editions {
+    fn drop(self) {
+        let Editions {
+            old: _old,
+            new: _new,
+        } = self;
+    }
 }
 
 /// The specifications of two files.

@@ -11,7 +11,6 @@ use ax_load::{LoadStop, SpecFault};
 use std::alloc::AllocError;
 
 /// How a run ends.
-#[derive(Drop)]
 pub enum Outcome {
     /// The input, where the command reads it, was read to its end, and the whole result was written. `blocks` counts the blocks
     /// that were taken, or by `build` and `trial` made; it is 0 of a command without any.
@@ -46,6 +45,46 @@ pub enum Outcome {
     ReportFault,
     /// Want of memory.
     OutOfMemory,
+}
+
+impl Drop for Outcome {
+    fn drop(self) {
+        match self {
+            Outcome::Done { blocks: _blocks } => {}
+            Outcome::Usage => {}
+            Outcome::SpecRefused {
+                file: _file,
+                fault: _fault,
+            } => {}
+            Outcome::CategoryTwice {
+                file: _file,
+                category: _category,
+            } => {}
+            Outcome::FilterRefused { fault: _fault } => {}
+            Outcome::OtherCategory {
+                old: _old,
+                new: _new,
+            } => {}
+            Outcome::ExpansionUnused {
+                category: _category,
+            } => {}
+            Outcome::InputRefused { fault: _fault } => {}
+            Outcome::TextRefused {
+                line: _line,
+                fault: _fault,
+            } => {}
+            Outcome::MigratedTooLong {
+                block: _block,
+                octets: _octets,
+            } => {}
+            Outcome::InputTooLong => {}
+            Outcome::LoadFault { file: _file } => {}
+            Outcome::ReadFault => {}
+            Outcome::WriteFault => {}
+            Outcome::ReportFault => {}
+            Outcome::OutOfMemory => {}
+        }
+    }
 }
 
 /// Why a command refuses its arguments or what its files have in common, before it reads its input.

@@ -17,9 +17,14 @@ use ax_values::encode_of_length;
 use std::alloc::{AllocError, Global};
 
 /// The octets of a data block.
-#[derive(Drop)]
 pub(crate) struct DataBlock {
     pub(crate) octets: Vec<u8>,
+}
+
+impl Drop for DataBlock {
+    fn drop(self) {
+        let DataBlock { octets: _octets } = self;
+    }
 }
 
 /// Data blocks, in order.

@@ -22,13 +22,23 @@ use std::alloc::{AllocError, Global};
 
 /// `convert` from one edition to another. A block in which nothing may be converted is migrated, as its view; of any other a tree
 /// is made. From which slots something is converted is found once: from none, where the editions differ in no quantity.
-#[derive(Drop)]
 pub struct ConvertBlocks<'m, 'c> {
     migrator: &'m Migrator<'c>,
     /// The slots of the old edition from which something is converted.
     slots: Vec<u32>,
     views: MigrateViews<'m, 'c>,
     trees: ConvertTrees<'c>,
+}
+
+impl Drop for ConvertBlocks<'_, '_> {
+    fn drop(self) {
+        let ConvertBlocks {
+            migrator: _migrator,
+            slots: _slots,
+            views: _views,
+            trees: _trees,
+        } = self;
+    }
 }
 
 impl<'m, 'c> ConvertBlocks<'m, 'c> {

@@ -17,10 +17,18 @@ use ax_values::{DecodeError, decode_block};
 use std::alloc::Global;
 
 /// The data blocks of a converted block, and what its conversion missed.
-#[derive(Drop)]
 pub(crate) struct Made {
     pub(crate) misses: Misses,
     pub(crate) blocks: DataBlocks,
+}
+
+impl Drop for Made {
+    fn drop(self) {
+        let Made {
+            misses: _misses,
+            blocks: _blocks,
+        } = self;
+    }
 }
 
 /// The block as it is read under the old edition alone: one of another category is opaque. Fault is the first fault of its body.

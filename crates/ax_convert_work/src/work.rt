@@ -16,12 +16,21 @@ use ax_uap::UapItems;
 use std::alloc::{AllocError, Global};
 
 /// `convert` from one edition to another, over trees. What is held of the two is found once.
-#[derive(Drop)]
 pub struct ConvertTrees<'x> {
     alloc: Global,
     converter: Converter<'x>,
     /// The items of the new edition.
     items: UapItems<'x>,
+}
+
+impl Drop for ConvertTrees<'_> {
+    fn drop(self) {
+        let ConvertTrees {
+            alloc: _alloc,
+            converter: _converter,
+            items: _items,
+        } = self;
+    }
 }
 
 impl<'x> ConvertTrees<'x> {

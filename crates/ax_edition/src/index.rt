@@ -16,10 +16,18 @@ use std::alloc::{AllocError, Global};
 type Kinds<'k> = Sequence<Option<&'k Kind>>;
 
 /// Slots, each to be found by its name: the first of a name.
-#[derive(Drop)]
 pub struct Index<'k> {
     numbers: Numbers,
     kinds: Kinds<'k>,
+}
+
+impl Drop for Index<'_> {
+    fn drop(self) {
+        let Index {
+            numbers: _numbers,
+            kinds: _kinds,
+        } = self;
+    }
 }
 
 /// What a slot that isn't spare is found by: its number, from 1, and its name.

@@ -11,17 +11,33 @@ use ax_format::{Kind, Name, Steps};
 use std::alloc::{AllocError, Global};
 
 /// What stands at a path of the new edition: the slot numbers on the way to it, the first of which is an FRN, and its kind.
-#[derive(Drop)]
 pub(crate) struct Target<'k> {
     pub(crate) numbers: Steps,
     pub(crate) kind: &'k Kind,
 }
 
+impl Drop for Target<'_> {
+    fn drop(self) {
+        let Target {
+            numbers: _numbers,
+            kind: _kind,
+        } = self;
+    }
+}
+
 /// What stands below a path of the new edition, by name.
-#[derive(Drop)]
 pub(crate) struct Level<'k> {
     numbers: Steps,
     index: Index<'k>,
+}
+
+impl Drop for Level<'_> {
+    fn drop(self) {
+        let Level {
+            numbers: _numbers,
+            index: _index,
+        } = self;
+    }
 }
 
 impl<'k> Level<'k> {

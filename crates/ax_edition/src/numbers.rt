@@ -10,9 +10,14 @@ use indexmap::IndexMap;
 use std::alloc::{AllocError, Global};
 
 /// A number for each of some names.
-#[derive(Drop)]
 pub(crate) struct Numbers {
     numbers: IndexMap<Name, u32>,
+}
+
+impl Drop for Numbers {
+    fn drop(self) {
+        let Numbers { numbers: _numbers } = self;
+    }
 }
 
 impl Numbers {

@@ -7,10 +7,18 @@ use ax_format::{Name, Place, Steps, Text, at_name};
 use std::alloc::{AllocError, Global};
 
 /// The way to a path of the old edition: its text, and the slot numbers on it, the first of which is an FRN.
-#[derive(Drop)]
 pub(crate) struct Way {
     pub(crate) text: Text,
     pub(crate) numbers: Steps,
+}
+
+impl Drop for Way {
+    fn drop(self) {
+        let Way {
+            text: _text,
+            numbers: _numbers,
+        } = self;
+    }
 }
 
 /// Appends a number. A list of more than 2^32 - 1 numbers is a want of memory.

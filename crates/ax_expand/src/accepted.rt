@@ -16,10 +16,18 @@ use std::alloc::{AllocError, Global};
 use std::marker::Model;
 
 /// An expansion without flaw, with the specification that stands for it. Contracts see it as that expansion.
-#[derive(Drop)]
 pub struct AcceptedExpansion {
     expansion: Expansion,
     wrapped: Spec,
+}
+
+impl Drop for AcceptedExpansion {
+    fn drop(self) {
+        let AcceptedExpansion {
+            expansion: _expansion,
+            wrapped: _wrapped,
+        } = self;
+    }
 }
 
 impl Model for AcceptedExpansion {

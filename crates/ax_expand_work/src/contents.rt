@@ -9,10 +9,18 @@ use ax_octets::OctetBuffer;
 use std::alloc::{AllocError, Global};
 
 /// The lines of a block, before any of them is written: of contents that spell a value, and of contents that have a fault.
-#[derive(Drop)]
 pub(crate) struct ContentLines {
     pub(crate) spelled: OctetBuffer,
     pub(crate) faulty: OctetBuffer,
+}
+
+impl Drop for ContentLines {
+    fn drop(self) {
+        let ContentLines {
+            spelled: _spelled,
+            faulty: _faulty,
+        } = self;
+    }
 }
 
 /// Gathers the line of a content of RE, of at most 254 octets.

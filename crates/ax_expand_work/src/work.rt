@@ -19,7 +19,6 @@ use std::alloc::Global;
 
 /// `expand` under a specification, by its codec: RE has that field reference number, and its contents are read by the expansion.
 /// The memory of the lines is kept from block to block, and grows to what the longest block needs.
-#[derive(Drop)]
 pub struct ExpandViews<'c> {
     alloc: Global,
     /// What the codec stands for: contracts speak of it, the code doesn't.
@@ -28,6 +27,19 @@ pub struct ExpandViews<'c> {
     expansion: &'c AcceptedExpansion,
     frn: u32,
     lines: ContentLines,
+}
+
+impl Drop for ExpandViews<'_> {
+    fn drop(self) {
+        let ExpandViews {
+            alloc: _alloc,
+            accepted: _accepted,
+            codec: _codec,
+            expansion: _expansion,
+            frn: _frn,
+            lines: _lines,
+        } = self;
+    }
 }
 
 impl<'c> ExpandViews<'c> {

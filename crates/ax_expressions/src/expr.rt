@@ -14,10 +14,18 @@ pub enum Op {
 }
 
 /// A path with its category, as `048/010/SAC`.
-#[derive(Drop)]
 pub struct FullPath {
     pub category: u8,
     pub names: Path,
+}
+
+impl Drop for FullPath {
+    fn drop(self) {
+        let FullPath {
+            category: _category,
+            names: _names,
+        } = self;
+    }
 }
 
 /// Expressions in order.

@@ -14,10 +14,18 @@ pub enum Asking {
 }
 
 /// What is asked of a record.
-#[derive(Drop)]
 pub struct Question {
     pub asking: Asking,
     pub place: Place,
+}
+
+impl Drop for Question {
+    fn drop(self) {
+        let Question {
+            asking: _asking,
+            place: _place,
+        } = self;
+    }
 }
 
 /// Questions by their numbers, from 0.
@@ -77,11 +85,19 @@ pub enum Plan {
 }
 
 /// What is asked of the records of one category.
-#[derive(Drop)]
 pub struct CategoryPlan {
     pub plan: Plan,
     /// How many of its tests ask what stands at a place; counted up to 2^32 - 1.
     pub asking: u32,
+}
+
+impl Drop for CategoryPlan {
+    fn drop(self) {
+        let CategoryPlan {
+            plan: _plan,
+            asking: _asking,
+        } = self;
+    }
 }
 
 /// By category, what is asked of its records.

@@ -4,13 +4,22 @@ use ax_format::Place;
 use ax_lists::Sequence;
 
 /// An element of a specification, and how its number is read.
-#[derive(Drop)]
 pub struct Element {
     pub place: Place,
     /// Whether its number is in two's complement.
     pub signed: bool,
     /// In bits.
     pub width: u32,
+}
+
+impl Drop for Element {
+    fn drop(self) {
+        let Element {
+            place: _place,
+            signed: _signed,
+            width: _width,
+        } = self;
+    }
 }
 
 /// Tests in order.

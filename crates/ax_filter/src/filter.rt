@@ -11,7 +11,6 @@ use ax_check::Catalogue;
 use ax_expressions::{CategoryPlans, Expr, Questions, Test};
 
 /// An expression over a catalogue: it holds of a record of a category or doesn't.
-#[derive(Drop)]
 pub struct Filter<'c> {
     pub(crate) expr: Expr,
     pub(crate) catalogue: &'c Catalogue,
@@ -24,4 +23,17 @@ pub struct Filter<'c> {
     pub(crate) plans: CategoryPlans,
     ghost same: { (category : ℕ) (r : EntriesTree) → passes category r (test_tree test) ≡ holds (catalogue_tree catalogue.now) category r (expr_tree expr) },
     ghost planned: { PlanEach questions plans test },
+}
+
+impl Drop for Filter<'_> {
+    fn drop(self) {
+        let Filter {
+            expr: _expr,
+            catalogue: _catalogue,
+            test: _test,
+            count: _count,
+            questions: _questions,
+            plans: _plans,
+        } = self;
+    }
 }

@@ -40,12 +40,20 @@ fn no_answers(alloc: Global, count: usize) -> Result<Vec<Answer>, AllocError>
 /// What the questions of a filter found: room for an answer to each, taken once and lent for one record after another, so that what
 /// several tests ask is looked for once a record. Records have numbers from 1 on, and an answer is one of the record whose number it
 /// has: so nothing is cleared for a new record. At the greatest number all answers are forgotten, and the next record is 1 again.
-#[derive(Drop)]
 pub struct Memo {
     pub(crate) answers: Vec<Answer>,
     /// The number of the latest record.
     pub(crate) number: u32,
     ghost none_later: { NoneLater number answers.items },
+}
+
+impl Drop for Memo {
+    fn drop(self) {
+        let Memo {
+            answers: _answers,
+            number: _number,
+        } = self;
+    }
 }
 
 impl Memo {

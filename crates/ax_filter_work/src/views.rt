@@ -19,13 +19,23 @@ use std::alloc::{AllocError, Global};
 /// `filter` under the catalogue of a filter, by the codecs of its specifications: the canonical form of the records that
 /// the filter holds of. A block is judged, and its records are asked for and written, in one walk over its octets; what is
 /// written stands in one output, as long as the longest block, and what questions find in a record in one memo.
-#[derive(Drop)]
 pub struct FilterViews<'f, 'c> {
     filter: &'f Filter<'c>,
     rows: CategoryRows<'f>,
     output: Vec<u8>,
     memo: Memo,
     ghost room: { length output.items ≡ longest_block },
+}
+
+impl Drop for FilterViews<'_, '_> {
+    fn drop(self) {
+        let FilterViews {
+            filter: _filter,
+            rows: _rows,
+            output: _output,
+            memo: _memo,
+        } = self;
+    }
 }
 
 impl<'f, 'c> FilterViews<'f, 'c> {

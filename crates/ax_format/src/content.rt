@@ -9,7 +9,6 @@ pub enum Sign {
 }
 
 /// What one unit of an element's number stands for: `num / den` of the unit.
-#[derive(Drop)]
 pub struct Scale {
     pub sign: Sign,
     pub num: u64,
@@ -17,18 +16,36 @@ pub struct Scale {
     pub unit: Text,
 }
 
+impl Drop for Scale {
+    fn drop(self) {
+        let Scale {
+            sign: _sign,
+            num: _num,
+            den: _den,
+            unit: _unit,
+        } = self;
+    }
+}
+
 /// A number of a table and its text.
-#[derive(Drop)]
 pub struct TableText {
     pub number: u64,
     pub text: Text,
+}
+
+impl Drop for TableText {
+    fn drop(self) {
+        let TableText {
+            number: _number,
+            text: _text,
+        } = self;
+    }
 }
 
 /// The entries of a table, in the file's order.
 pub type TableTexts = Sequence<TableText>;
 
 /// What an element's number means. It describes and never refuses: every bit pattern is a value.
-#[derive(Drop)]
 pub enum Content {
     /// Nothing is said of the number.
     Raw,
@@ -44,4 +61,18 @@ pub enum Content {
     Integer(Sign),
     /// A multiple of a unit.
     Quantity(Scale),
+}
+
+impl Drop for Content {
+    fn drop(self) {
+        match self {
+            Content::Raw => {}
+            Content::Table(_content) => {}
+            Content::Ascii => {}
+            Content::Icao => {}
+            Content::Octal => {}
+            Content::Integer(_content) => {}
+            Content::Quantity(_content) => {}
+        }
+    }
 }

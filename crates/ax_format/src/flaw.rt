@@ -34,10 +34,18 @@ pub enum FlawKind {
 
 /// A flaw of a specification and its place: the category in three digits and the names down to it, joined
 /// by `/`.
-#[derive(Drop)]
 pub struct Flaw {
     pub kind: FlawKind,
     pub path: Text,
+}
+
+impl Drop for Flaw {
+    fn drop(self) {
+        let Flaw {
+            kind: _kind,
+            path: _path,
+        } = self;
+    }
 }
 
 /// The flaws of a specification, in their order.

@@ -23,9 +23,14 @@ pub enum Member {
 }
 
 /// A part of an extended item: its members, after which the field has one FX bit where the part has one.
-#[derive(Drop)]
 pub struct Part {
     pub members: Members,
+}
+
+impl Drop for Part {
+    fn drop(self) {
+        let Part { members: _members } = self;
+    }
 }
 
 /// The parts of an extended item, in order.

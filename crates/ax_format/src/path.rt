@@ -10,9 +10,14 @@ use std::marker::Model;
 
 /// A path: one or more names, from an item downwards. The category is not among them. Contracts see it as the
 /// list of its names.
-#[derive(Drop)]
 pub struct Path {
     names: Sequence<Name>,
+}
+
+impl Drop for Path {
+    fn drop(self) {
+        let Path { names: _names } = self;
+    }
 }
 
 impl Model for Path {

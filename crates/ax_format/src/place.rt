@@ -5,8 +5,16 @@ use ax_lists::Sequence;
 pub type Steps = Sequence<u32>;
 
 /// Where a named datum stands in a specification: its item's field reference number, and the steps inside it.
-#[derive(Drop)]
 pub struct Place {
     pub frn: u32,
     pub steps: Steps,
+}
+
+impl Drop for Place {
+    fn drop(self) {
+        let Place {
+            frn: _frn,
+            steps: _steps,
+        } = self;
+    }
 }

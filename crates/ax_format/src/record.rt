@@ -5,9 +5,14 @@ use crate::value::{Entries, Octets};
 use ax_lists::Sequence;
 
 /// A record: its marked field reference numbers in ascending order, with their values.
-#[derive(Drop)]
 pub struct Record {
     pub entries: Entries,
+}
+
+impl Drop for Record {
+    fn drop(self) {
+        let Record { entries: _entries } = self;
+    }
 }
 
 /// The records of a block, in order.

@@ -4,11 +4,20 @@ use crate::text::Text;
 use ax_lists::Sequence;
 
 /// An item of a category: its name, its title, which may be empty, and its kind.
-#[derive(Drop)]
 pub struct Item {
     pub name: Name,
     pub title: Text,
     pub kind: Kind,
+}
+
+impl Drop for Item {
+    fn drop(self) {
+        let Item {
+            name: _name,
+            title: _title,
+            kind: _kind,
+        } = self;
+    }
 }
 
 /// The items of a category, in the file's order.
@@ -25,10 +34,20 @@ pub enum UapSlot {
 pub type UapSlots = Sequence<UapSlot>;
 
 /// The specification of one category, as its file gives it.
-#[derive(Drop)]
 pub struct Spec {
     pub category: u8,
     pub edition: Text,
     pub items: Items,
     pub uap: UapSlots,
+}
+
+impl Drop for Spec {
+    fn drop(self) {
+        let Spec {
+            category: _category,
+            edition: _edition,
+            items: _items,
+            uap: _uap,
+        } = self;
+    }
 }

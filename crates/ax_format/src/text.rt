@@ -9,9 +9,14 @@ use std::marker::Model;
 
 /// A text: octets 0x20 to 0x7E without the double quote, fewer than 2^32 of them. Contracts see it as the
 /// list of its octets.
-#[derive(Drop)]
 pub struct Text {
     octets: Vec<u8>,
+}
+
+impl Drop for Text {
+    fn drop(self) {
+        let Text { octets: _octets } = self;
+    }
 }
 
 impl Model for Text {

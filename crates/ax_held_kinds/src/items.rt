@@ -14,10 +14,18 @@ use std::alloc::{AllocError, Global};
 use std::marker::Model;
 
 /// The slots of a specification's UAP, each with what is held of its item. Contracts see the specification.
-#[derive(Drop)]
 pub struct HeldItems<'s> {
     spec: &'s Spec,
     slots: HeldSlots<'s>,
+}
+
+impl Drop for HeldItems<'_> {
+    fn drop(self) {
+        let HeldItems {
+            spec: _spec,
+            slots: _slots,
+        } = self;
+    }
 }
 
 impl<'s> Model for HeldItems<'s> {

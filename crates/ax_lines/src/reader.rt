@@ -16,7 +16,6 @@ pub enum EndedLines {
 }
 
 /// A reader of lines, with room for the longest one. The buffer has as many octets as were needed so far.
-#[derive(Drop)]
 pub struct LineReader {
     buffer: Vec<u8>,
     start: usize,
@@ -25,6 +24,20 @@ pub struct LineReader {
     limit: u64,
     given: u64,
     ended: Option<EndedLines>,
+}
+
+impl Drop for LineReader {
+    fn drop(self) {
+        let LineReader {
+            buffer: _buffer,
+            start: _start,
+            end: _end,
+            line_limit: _line_limit,
+            limit: _limit,
+            given: _given,
+            ended: _ended,
+        } = self;
+    }
 }
 
 impl Model for LineReader {

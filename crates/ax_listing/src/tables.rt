@@ -15,12 +15,20 @@ use ax_values::record_mask;
 use std::alloc::{AllocError, Global};
 
 /// What the blocks of a category are listed by: what is held of the items of its UAP, and the mask of the UAP's slots.
-#[derive(Drop)]
 pub(crate) struct ListedUap<'c> {
     pub(crate) items: HeldItems<'c>,
     pub(crate) mask: SlotMask,
     ghost count: { mask.count ≡ length (record_slot_list (spec_tree items)) },
     ghost defined: { mask_slots mask ≡ defined_slots (slots_of (record_slot_list (spec_tree items))) },
+}
+
+impl Drop for ListedUap<'_> {
+    fn drop(self) {
+        let ListedUap {
+            items: _items,
+            mask: _mask,
+        } = self;
+    }
 }
 
 /// Tables, by category.

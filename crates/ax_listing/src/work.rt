@@ -19,13 +19,23 @@ use std::alloc::{AllocError, Global};
 
 /// `show` under a catalogue, by the codecs of its specifications: the listing of each block, by its number in the input. The
 /// listing's memory is kept from block to block.
-#[derive(Drop)]
 pub struct ShowViews<'c> {
     /// What the tables and the codecs are of: contracts speak of it, the code doesn't.
     catalogue: &'c Catalogue,
     codecs: &'c Codecs,
     tables: ListedUaps<'c>,
     room: ListingRoom,
+}
+
+impl Drop for ShowViews<'_> {
+    fn drop(self) {
+        let ShowViews {
+            catalogue: _catalogue,
+            codecs: _codecs,
+            tables: _tables,
+            room: _room,
+        } = self;
+    }
 }
 
 impl<'c> ShowViews<'c> {

@@ -15,12 +15,20 @@ use ax_walk::{Notes, RecordRows, marked_item, record_by_rows};
 use std::alloc::{AllocError, Global};
 
 /// By what records are known to stay as they are.
-#[derive(Drop)]
 pub(crate) struct KeptSlots {
     /// The slots of which an item may not stay as it is, or may be lost in part.
     pub(crate) leaving: Presence,
     /// By slot, from 0 on: its items of fewer octets than this stay as they are, and nothing of them is lost.
     pub(crate) short: Vec<u32>,
+}
+
+impl Drop for KeptSlots {
+    fn drop(self) {
+        let KeptSlots {
+            leaving: _leaving,
+            short: _short,
+        } = self;
+    }
 }
 
 /// Whether each item of a slot is sure to keep its slot and its canonical octets as it moves.

@@ -11,7 +11,6 @@ use ax_relation::Relation;
 
 /// Migration from one edition to another, by the relation of the two and the codec of the old one: each is of these editions.
 /// Memory is taken when it is made, and none for a block.
-#[derive(Drop)]
 pub struct Migrator<'c> {
     /// The two editions: contracts speak of them, the code doesn't.
     pub(crate) old: &'c Spec,
@@ -27,4 +26,18 @@ pub struct Migrator<'c> {
     ghost editions: { AreEditions old.now new.now relation.now codec.now lost.items } by { AreEditions-prop old.now new.now relation.now codec.now lost.items },
     ghost kept_records: { KeepsRecords codec.now relation.now.moves lost.items kept } by { KeepsRecords-prop codec.now relation.now.moves lost.items kept },
     ghost moves: { KnowsMoves codec.now.nodes codec.now.slots relation.now.moves known } by { KnowsMoves-prop codec.now.nodes codec.now.slots relation.now.moves known },
+}
+
+impl Drop for Migrator<'_> {
+    fn drop(self) {
+        let Migrator {
+            old: _old,
+            new: _new,
+            relation: _relation,
+            codec: _codec,
+            lost: _lost,
+            known: _known,
+            kept: _kept,
+        } = self;
+    }
 }

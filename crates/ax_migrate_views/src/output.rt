@@ -16,13 +16,22 @@ const ROOM: usize = 131_067;
 
 /// The octets of a migrated block and those of the lines of what it loses, each at the front of its output, and how many were
 /// laid there.
-#[derive(Drop)]
 pub(crate) struct Outputs {
     pub(crate) block: Vec<u8>,
     pub(crate) lines: Vec<u8>,
     pub(crate) laid: Laid,
     ghost room: { length block.items ≡ 131067 },
     ghost lines_room: { length lines.items ≡ 131067 },
+}
+
+impl Drop for Outputs {
+    fn drop(self) {
+        let Outputs {
+            block: _block,
+            lines: _lines,
+            laid: _laid,
+        } = self;
+    }
 }
 
 impl Outputs {

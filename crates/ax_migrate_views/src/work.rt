@@ -12,10 +12,18 @@ use std::alloc::{AllocError, Global};
 
 /// `migrate` over views, by a migrator between the two editions. What is written of a block stands in one output, and the
 /// lines of what it loses in another.
-#[derive(Drop)]
 pub struct MigrateViews<'m, 'c> {
     migrator: &'m Migrator<'c>,
     outputs: Outputs,
+}
+
+impl Drop for MigrateViews<'_, '_> {
+    fn drop(self) {
+        let MigrateViews {
+            migrator: _migrator,
+            outputs: _outputs,
+        } = self;
+    }
 }
 
 impl<'m, 'c> MigrateViews<'m, 'c> {

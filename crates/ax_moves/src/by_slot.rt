@@ -17,7 +17,6 @@ use std::alloc::{AllocError, Global};
 pub const SLOTS: u32 = 127;
 
 /// What is known of the moves of a record, so that its marked slots alone are gone through.
-#[derive(Drop)]
 pub struct SlotMoves {
     /// Whether the moves come in the order of their old slots, each slot once.
     pub ordered: bool,
@@ -32,6 +31,19 @@ pub struct SlotMoves {
     pub kept: Option<Presence>,
     /// What is known of the moves by their places in order, and of those below each.
     pub by_place: KnownMoves,
+}
+
+impl Drop for SlotMoves {
+    fn drop(self) {
+        let SlotMoves {
+            ordered: _ordered,
+            places: _places,
+            stays: _stays,
+            leaving: _leaving,
+            kept: _kept,
+            by_place: _by_place,
+        } = self;
+    }
 }
 
 /// Whether the moves come in the order of their old slots, each slot once.

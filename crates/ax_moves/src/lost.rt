@@ -11,7 +11,6 @@ use ax_relation::{RelationPath, RelationPaths};
 use std::alloc::{AllocError, Global};
 
 /// What is known at one of the numbers of a key's place: the FRN at depth 0, a slot number at each later one.
-#[derive(Drop)]
 pub struct Run {
     pub slot: u32,
     /// Of so many keys right behind, the place has the same number at this depth.
@@ -22,14 +21,34 @@ pub struct Run {
     pub later: Presence,
 }
 
+impl Drop for Run {
+    fn drop(self) {
+        let Run {
+            slot: _slot,
+            more: _more,
+            reach: _reach,
+            later: _later,
+        } = self;
+    }
+}
+
 /// A key that has no new place.
-#[derive(Drop)]
 pub struct LostKey<'c> {
     pub path: &'c RelationPath,
     /// By depth, one for each number of its place.
     pub runs: Vec<Run>,
     /// So many keys right behind aren't there where this one isn't: later parts of the same item.
     pub absent: u32,
+}
+
+impl Drop for LostKey<'_> {
+    fn drop(self) {
+        let LostKey {
+            path: _path,
+            runs: _runs,
+            absent: _absent,
+        } = self;
+    }
 }
 
 /// The number of a key's place at a depth.

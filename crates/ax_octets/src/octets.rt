@@ -11,10 +11,18 @@ use std::marker::Model;
 
 /// Octets that others are appended to. Contracts see those so far. The memory after them is set ahead, so that a piece is
 /// stored with one test; it is kept when they are taken away.
-#[derive(Drop)]
 pub struct OctetBuffer {
     area: Vec<u8>,
     filled: usize,
+}
+
+impl Drop for OctetBuffer {
+    fn drop(self) {
+        let OctetBuffer {
+            area: _area,
+            filled: _filled,
+        } = self;
+    }
 }
 
 impl Model for OctetBuffer {

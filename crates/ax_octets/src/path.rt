@@ -7,13 +7,22 @@ use std::alloc::{AllocError, Global};
 use std::marker::Model;
 
 /// A path. Contracts see its octets. A short one stands in place, in an array, and takes no memory.
-#[derive(Drop)]
 pub struct LinePath {
     pub(crate) front: [u8; 64],
     /// How many octets of the array count.
     pub(crate) count: usize,
     /// What comes after those; nothing where the path is short.
     pub(crate) rest: Vec<u8>,
+}
+
+impl Drop for LinePath {
+    fn drop(self) {
+        let LinePath {
+            front: _front,
+            count: _count,
+            rest: _rest,
+        } = self;
+    }
 }
 
 impl Model for LinePath {

@@ -11,13 +11,24 @@ use std::alloc::Global;
 use std::marker::Model;
 
 /// A library of files in memory, whose calls fail as its maker says.
-#[derive(Drop)]
 pub struct MemLibrary {
     files: Vec<(String, Vec<u8>)>,
     failing: Vec<u64>,
     call: u64,
     faults: u64,
     taken: u64,
+}
+
+impl Drop for MemLibrary {
+    fn drop(self) {
+        let MemLibrary {
+            files: _files,
+            failing: _failing,
+            call: _call,
+            faults: _faults,
+            taken: _taken,
+        } = self;
+    }
 }
 
 impl Model for MemLibrary {

@@ -9,7 +9,6 @@ use std::alloc::{AllocError, Global};
 use std::marker::Model;
 
 /// A sink in memory of a fixed room, whose calls are cut and fail as its maker says.
-#[derive(Drop)]
 pub struct MemSink {
     buffer: Vec<u8>,
     count: usize,
@@ -17,6 +16,19 @@ pub struct MemSink {
     failing: Vec<u64>,
     call: u64,
     faults: u64,
+}
+
+impl Drop for MemSink {
+    fn drop(self) {
+        let MemSink {
+            buffer: _buffer,
+            count: _count,
+            largest: _largest,
+            failing: _failing,
+            call: _call,
+            faults: _faults,
+        } = self;
+    }
 }
 
 impl Model for MemSink {

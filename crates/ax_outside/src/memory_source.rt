@@ -8,7 +8,6 @@ use ax_endpoints::{Source, SourceFailed};
 use std::marker::Model;
 
 /// A source of octets in memory, whose calls are cut and fail as its maker says.
-#[derive(Drop)]
 pub struct MemSource {
     octets: Vec<u8>,
     at: usize,
@@ -16,6 +15,19 @@ pub struct MemSource {
     failing: Vec<u64>,
     call: u64,
     faults: u64,
+}
+
+impl Drop for MemSource {
+    fn drop(self) {
+        let MemSource {
+            octets: _octets,
+            at: _at,
+            cuts: _cuts,
+            failing: _failing,
+            call: _call,
+            faults: _faults,
+        } = self;
+    }
 }
 
 impl Model for MemSource {

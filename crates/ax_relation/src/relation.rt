@@ -12,7 +12,6 @@ use ax_lists::Sequence;
 
 /// A key of the old edition: its text, the number of its part, its old place, and its new one where it is shared. A part's
 /// places are its item's.
-#[derive(Drop)]
 pub struct RelationPath {
     pub text: Text,
     pub part: Option<u32>,
@@ -20,16 +19,36 @@ pub struct RelationPath {
     pub new: Option<Place>,
 }
 
+impl Drop for RelationPath {
+    fn drop(self) {
+        let RelationPath {
+            text: _text,
+            part: _part,
+            old: _old,
+            new: _new,
+        } = self;
+    }
+}
+
 /// Keys of the old edition, in order.
 pub type RelationPaths = Sequence<RelationPath>;
 
 /// The relation of two editions of one category, which have no flaw: there is no other.
-#[derive(Drop)]
 pub struct Relation {
     paths: RelationPaths,
     known: Known,
     moves: Moves,
     ghost editions: { AreOfEditions paths known moves },
+}
+
+impl Drop for Relation {
+    fn drop(self) {
+        let Relation {
+            paths: _paths,
+            known: _known,
+            moves: _moves,
+        } = self;
+    }
 }
 
 impl Relation {

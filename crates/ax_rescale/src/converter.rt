@@ -27,7 +27,6 @@ pub struct ConvertedBlock {
 }
 
 /// Conversion from one edition to another. What it needs of the two is found once, before the first block.
-#[derive(Drop)]
 pub struct Converter<'x> {
     /// The edition that blocks are of.
     pub(crate) old: &'x Spec,
@@ -36,6 +35,18 @@ pub struct Converter<'x> {
     pub(crate) relation: &'x Relation,
     pub(crate) mappings: SlotMappings<'x>,
     pub(crate) watches: Watches<'x>,
+}
+
+impl Drop for Converter<'_> {
+    fn drop(self) {
+        let Converter {
+            old: _old,
+            new: _new,
+            relation: _relation,
+            mappings: _mappings,
+            watches: _watches,
+        } = self;
+    }
 }
 
 /// The mappings from the slots of the one edition to those of the other.

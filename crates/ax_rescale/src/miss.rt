@@ -8,13 +8,22 @@ use ax_format::Text;
 use ax_report::write_entry;
 
 /// An entry that the converted record doesn't have: the number of its record in the block, from 0, and the text of its path.
-#[derive(Drop)]
 pub struct Miss {
     pub record_at: u32,
     pub path: Text,
     /// The new edition has the item with other scales, and one of the value's numbers has no converted number; otherwise the
     /// new edition lacks the item, or has it in another form.
     pub unconverted: bool,
+}
+
+impl Drop for Miss {
+    fn drop(self) {
+        let Miss {
+            record_at: _record_at,
+            path: _path,
+            unconverted: _unconverted,
+        } = self;
+    }
 }
 
 /// What is said of the entry in one word.

@@ -12,12 +12,21 @@ const MOST_SLOTS: usize = 63;
 
 /// The rows of a set of slots: for presence octet `i` and the value `v` of its seven marks, `start[128 * i + v]` is the number of
 /// the row's first step, or `NO_ROW`.
-#[derive(Drop)]
 pub struct SlotRows {
     /// The link of each slot; 0 of a spare one.
     pub slots: Vec<u32>,
     pub start: Vec<u32>,
     pub steps: Vec<Step>,
+}
+
+impl Drop for SlotRows {
+    fn drop(self) {
+        let SlotRows {
+            slots: _slots,
+            start: _start,
+            steps: _steps,
+        } = self;
+    }
 }
 
 /// Rows that are lent out.

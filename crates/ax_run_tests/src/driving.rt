@@ -20,10 +20,18 @@ fn file_of(rt: &impl Abort, alloc: Global, name: &str) -> Accepted {
 }
 
 /// The sinks of a loop, in memory: the output, and the report, of which that call fails.
-#[derive(Drop)]
 struct Sinks {
     out: MemSink,
     report: MemSink,
+}
+
+impl Drop for Sinks {
+    fn drop(self) {
+        let Sinks {
+            out: _out,
+            report: _report,
+        } = self;
+    }
 }
 
 /// Sinks with room for that many octets on the report.

@@ -338,12 +338,22 @@ pub fn left_of(rt: &impl Abort, alloc: Global, source: &mut MemSource) -> usize 
 }
 
 /// The outside of a run.
-#[derive(Drop)]
 struct World {
     library: MemLibrary,
     source: MemSource,
     out: MemSink,
     report: MemSink,
+}
+
+impl Drop for World {
+    fn drop(self) {
+        let World {
+            library: _library,
+            source: _source,
+            out: _out,
+            report: _report,
+        } = self;
+    }
 }
 
 fn world_of(rt: &impl Abort, alloc: Global, outside: Outside, input: &[u8]) -> World {

@@ -43,13 +43,21 @@ fn places_of(alloc: Global, codecs: &CodecList) -> Result<Vec<u32>, AllocError>
 }
 
 /// Codecs of categories that differ from each other, each found by its category without a search.
-#[derive(Drop)]
 pub struct Codecs {
     pub codecs: CodecList,
     /// By category: the place of its codec, from 1; 0 where there is none.
     places: Vec<u32>,
     ghost apart: { IsDistinct nat_eq (map (λ codec. codec.category) codecs) } by { IsDistinct-prop nat_eq (map (λ codec. codec.category) codecs) },
     ghost placed: { ArePlaces codecs 256 places.items } by { ArePlaces-prop codecs 256 places.items },
+}
+
+impl Drop for Codecs {
+    fn drop(self) {
+        let Codecs {
+            codecs: _codecs,
+            places: _places,
+        } = self;
+    }
 }
 
 impl Codecs {

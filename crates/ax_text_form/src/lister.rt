@@ -24,10 +24,18 @@ pub struct NamedPlace<'p> {
 }
 
 /// A listing that lines are put on.
-#[derive(Drop)]
 pub struct Lister {
     pub(crate) alloc: Global,
     pub(crate) out: OctetBuffer,
+}
+
+impl Drop for Lister {
+    fn drop(self) {
+        let Lister {
+            alloc: _alloc,
+            out: _out,
+        } = self;
+    }
 }
 
 impl Lister {

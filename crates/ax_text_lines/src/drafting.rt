@@ -141,7 +141,6 @@ impl StepsLeft {
 }
 
 /// A fixed kind, with its width, and its template where that was made.
-#[derive(Drop)]
 pub struct TextFixed<'s> {
     /// The kind.
     pub fixed: &'s Fixed,
@@ -154,6 +153,17 @@ pub struct TextFixed<'s> {
     ghost wide: { width ≡ capped (Widths.width (fixed_tree fixed.now)) },
     ghost made: { IfSome steps (λ steps. AreSteps (fixed_template (fixed_tree fixed.now) (ends [])) steps) } by { Prim.hlevel props },
     ghost nests: { IsTrue shallow → FixedWithin 8 (fixed_tree fixed.now) } by { FixedShallow-prop shallow (fixed_tree fixed.now) },
+}
+
+impl Drop for TextFixed<'_> {
+    fn drop(self) {
+        let TextFixed {
+            fixed: _fixed,
+            width: _width,
+            steps: _steps,
+            shallow: _shallow,
+        } = self;
+    }
 }
 
 impl<'s> TextFixed<'s> {
@@ -172,7 +182,6 @@ impl<'s> TextFixed<'s> {
 }
 
 /// A part of an extended item, with its width without the FX bit, and its template where that was made.
-#[derive(Drop)]
 pub struct TextPart<'s> {
     /// The part.
     pub part: &'s Part,
@@ -185,6 +194,17 @@ pub struct TextPart<'s> {
     ghost wide: { width ≡ capped (Widths.members_width (part_tree part.now)) },
     ghost made: { IfSome steps (λ steps. AreSteps (part_template (part_tree part.now) (ends [])) steps) } by { Prim.hlevel props },
     ghost nests: { IsTrue shallow → MembersWithin 8 (part_tree part.now) } by { MembersShallow-prop shallow (part_tree part.now) },
+}
+
+impl Drop for TextPart<'_> {
+    fn drop(self) {
+        let TextPart {
+            part: _part,
+            width: _width,
+            steps: _steps,
+            shallow: _shallow,
+        } = self;
+    }
 }
 
 impl<'s> TextPart<'s> {

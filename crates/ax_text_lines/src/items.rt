@@ -14,10 +14,18 @@ use std::marker::Model;
 
 /// The slots of a specification's UAP, each with what is held of its item: between two numbers what is printed is put together
 /// once. Contracts see the specification.
-#[derive(Drop)]
 pub struct TextItems<'s> {
     spec: &'s Spec,
     slots: TextSlots<'s>,
+}
+
+impl Drop for TextItems<'_> {
+    fn drop(self) {
+        let TextItems {
+            spec: _spec,
+            slots: _slots,
+        } = self;
+    }
 }
 
 impl<'s> Model for TextItems<'s> {

@@ -20,12 +20,21 @@ use std::marker::Model;
 
 /// A line of tokens with one space between, as it is printed. Contracts see its octets so far. Its memory is kept from line
 /// to line.
-#[derive(Drop)]
 pub struct TokenLine {
     alloc: Global,
     /// The octets so far, and room for others after them.
     room: Vec<u8>,
     used: usize,
+}
+
+impl Drop for TokenLine {
+    fn drop(self) {
+        let TokenLine {
+            alloc: _alloc,
+            room: _room,
+            used: _used,
+        } = self;
+    }
 }
 
 impl Model for TokenLine {

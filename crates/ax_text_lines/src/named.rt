@@ -59,7 +59,6 @@ fn some_steps_of_named(
 }
 
 /// An item or a subitem of a fixed kind, with its width, and the template of its name and its value where that was made.
-#[derive(Drop)]
 pub struct TextNamed<'s> {
     /// The item's or the subitem's name.
     pub name: Name,
@@ -74,6 +73,18 @@ pub struct TextNamed<'s> {
     ghost wide: { width ≡ capped (Widths.width (fixed_tree fixed.now)) },
     ghost made: { IfSome steps (λ steps. AreSteps (member_template (named name (fixed_tree fixed.now)) (ends [])) steps) } by { Prim.hlevel props },
     ghost nests: { IsTrue shallow → IsName name × FixedWithin 8 (fixed_tree fixed.now) } by { NamedShallow-prop shallow name (fixed_tree fixed.now) },
+}
+
+impl Drop for TextNamed<'_> {
+    fn drop(self) {
+        let TextNamed {
+            name: _name,
+            fixed: _fixed,
+            width: _width,
+            steps: _steps,
+            shallow: _shallow,
+        } = self;
+    }
 }
 
 impl<'s> TextNamed<'s> {

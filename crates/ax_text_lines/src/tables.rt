@@ -16,12 +16,20 @@ use ax_values::record_mask;
 use std::alloc::{AllocError, Global};
 
 /// What the blocks of a category are printed by: what is held of the items of its UAP, and the mask of the UAP's slots.
-#[derive(Drop)]
 pub struct PrintedUap<'c> {
     pub items: TextItems<'c>,
     pub mask: SlotMask,
     ghost count: { mask.count ≡ length (record_slot_list (spec_tree items)) },
     ghost defined: { mask_slots mask ≡ defined_slots (slots_of (record_slot_list (spec_tree items))) },
+}
+
+impl Drop for PrintedUap<'_> {
+    fn drop(self) {
+        let PrintedUap {
+            items: _items,
+            mask: _mask,
+        } = self;
+    }
 }
 
 /// Tables, by category.

@@ -20,7 +20,6 @@ pub struct TemplateStep {
 }
 
 /// A template: its steps, in order, and the octets after them.
-#[derive(Drop)]
 pub struct TemplateSteps {
     /// The steps, in order.
     pub steps: Sequence<TemplateStep>,
@@ -28,13 +27,31 @@ pub struct TemplateSteps {
     pub tail: TemplateLiteral,
 }
 
+impl Drop for TemplateSteps {
+    fn drop(self) {
+        let TemplateSteps {
+            steps: _steps,
+            tail: _tail,
+        } = self;
+    }
+}
+
 /// A template as it is put together: its steps so far, and the octets after them.
-#[derive(Drop)]
 pub(crate) struct Draft {
     steps: Sequence<TemplateStep>,
     literal: TemplateLiteral,
     /// How many steps it may have.
     most: u32,
+}
+
+impl Drop for Draft {
+    fn drop(self) {
+        let Draft {
+            steps: _steps,
+            literal: _literal,
+            most: _most,
+        } = self;
+    }
 }
 
 impl Draft {

@@ -15,12 +15,21 @@ use std::alloc::{AllocError, Global};
 
 /// `text` under a catalogue: the line of each block, printed in one walk over its octets. The line's memory is kept from
 /// block to block, and grows to what the longest line needs.
-#[derive(Drop)]
 pub struct TextViews<'c> {
     /// What the tables are of: contracts speak of it, the code doesn't.
     catalogue: &'c Catalogue,
     tables: PrintedUaps<'c>,
     line: TokenLine,
+}
+
+impl Drop for TextViews<'_> {
+    fn drop(self) {
+        let TextViews {
+            catalogue: _catalogue,
+            tables: _tables,
+            line: _line,
+        } = self;
+    }
 }
 
 impl<'c> TextViews<'c> {

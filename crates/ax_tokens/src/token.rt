@@ -34,9 +34,15 @@ pub struct Token<'t> {
 
 /// The tokens of a text in order, numbered from 0. A contract sees them as the list of plain tokens,
 /// each with octets that are a token of its kind.
-#[derive(Debug, Drop)]
+#[derive(Debug)]
 pub struct Tokens<'t> {
     pub(crate) found: Vec<Token<'t>>,
+}
+
+impl Drop for Tokens<'_> {
+    fn drop(self) {
+        let Tokens { found: _found } = self;
+    }
 }
 
 impl<'t> Model for Tokens<'t> {

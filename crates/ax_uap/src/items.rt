@@ -10,12 +10,20 @@ use std::alloc::{AllocError, Global};
 
 /// The items of a specification's UAP. Where each slot's item stands among the items is found once, when this is made, so
 /// that no record looks a name up.
-#[derive(Drop)]
 pub struct UapItems<'s> {
     spec: &'s Spec,
     /// Of each slot the place of its item among the items, from 0; their number where there is none.
     places: Vec<u32>,
     ghost found: { places.items ≡ uap_places spec.now.uap spec.now.items },
+}
+
+impl Drop for UapItems<'_> {
+    fn drop(self) {
+        let UapItems {
+            spec: _spec,
+            places: _places,
+        } = self;
+    }
 }
 
 /// The place of the first item of a name, from 0; the number of items where there is none.

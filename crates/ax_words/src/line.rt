@@ -6,9 +6,14 @@ use std::alloc::{AllocError, Global};
 use std::marker::Model;
 
 /// A word of the command line. Contracts see it as the list of its octets.
-#[derive(Drop)]
 pub struct WordText {
     word: String,
+}
+
+impl Drop for WordText {
+    fn drop(self) {
+        let WordText { word: _word } = self;
+    }
 }
 
 impl Model for WordText {
@@ -41,7 +46,6 @@ impl WordText {
 pub type WordTexts = Sequence<WordText>;
 
 /// What the words ask for: one variant for each shape.
-#[derive(Drop)]
 pub enum Line {
     /// `check SPEC`
     Check {
@@ -97,4 +101,40 @@ pub enum Line {
     Help,
     /// `--version` alone.
     Version,
+}
+
+impl Drop for Line {
+    fn drop(self) {
+        match self {
+            Line::Check { file: _file } => {}
+            Line::Canon { files: _files } => {}
+            Line::Show { files: _files } => {}
+            Line::Text { files: _files } => {}
+            Line::Build { files: _files } => {}
+            Line::Filter {
+                expr: _expr,
+                files: _files,
+            } => {}
+            Line::Migrate {
+                old: _old,
+                new: _new,
+            } => {}
+            Line::Trial {
+                file: _file,
+                seed: _seed,
+                count: _count,
+            } => {}
+            Line::Salvage { files: _files } => {}
+            Line::Expand {
+                spec: _spec,
+                expansion: _expansion,
+            } => {}
+            Line::Convert {
+                old: _old,
+                new: _new,
+            } => {}
+            Line::Help => {}
+            Line::Version => {}
+        }
+    }
 }

@@ -176,7 +176,7 @@ pub(crate) static MIGRATED: [(Edition, Edition, &str, &str, &str); 24] = [
 ];
 
 // A block of another category is opaque.
-const OPAQUE: (Edition, Edition, &str, &str, &str) = (
+static OPAQUE: (Edition, Edition, &str, &str, &str) = (
     Edition::H1,
     Edition::H3,
     "3E 00 05 80 FF",

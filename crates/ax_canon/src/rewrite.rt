@@ -18,15 +18,8 @@ ghost use Rattle.ax_walk.specs.Rows.{tree_of};
 use ax_bits::Out;
 use ax_codec::{Codec, Node};
 use ax_format::Counter;
-use ax_fspec::{Presence, SlotMask, count_at, read_presence, write_presence};
+use ax_fspec::{MarkedItems, Presence, SlotMask, count_at, read_presence, write_presence};
 use ax_walk::{Notes, items_by_rows, walk, walk_record};
-
-/// The marked slots of a presence field, and the octet after it, at which the first of their items begins.
-#[derive(Clone, Copy)]
-struct MarkedItems {
-    marked: Presence,
-    begin: u32,
-}
 
 /// The kind of occurrences, by its link, and the counter before them.
 #[derive(Clone, Copy)]

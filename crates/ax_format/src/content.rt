@@ -67,12 +67,12 @@ impl Drop for Content {
     fn drop(self) {
         match self {
             Content::Raw => {}
-            Content::Table(_content) => {}
+            Content::Table(_entries) => {}
             Content::Ascii => {}
             Content::Icao => {}
             Content::Octal => {}
-            Content::Integer(_content) => {}
-            Content::Quantity(_content) => {}
+            Content::Integer(_sign) => {}
+            Content::Quantity(_scale) => {}
         }
     }
 }

@@ -6,6 +6,7 @@
 #![tactic(auto)]
 
 mod half;
+mod items;
 mod mask;
 mod reading;
 mod set;
@@ -13,6 +14,7 @@ mod slots;
 mod units;
 mod writing;
 
+pub use items::MarkedItems;
 pub use mask::SlotMask;
 pub use reading::read_presence;
 pub use set::Presence;

@@ -1,10 +1,10 @@
 -- The listing of a block that was read.
 use Rattle.std.specs.Prelude.{◌≡◌, ℕ, List, [], ◌∷◌, ◌++◌, codes, decimal}
 use Rattle.ax_bits.specs.Bits.{bits}
+use Rattle.ax_blocks.specs.declared.numbered.NumberedBlock.{NumberedBlock}
 use Rattle.ax_format.specs.Bodies.{SpellsBody}
 use Rattle.ax_format.specs.Specification.{SpecTree}
 use Rattle.ax_format.specs.Tree.{EntriesTree}
-use Rattle.ax_listing.specs.declared.numbered.NumberedBlock.{NumberedBlock}
 use Rattle.ax_text_form.specs.Printing.{as_lines}
 use Rattle.ax_text_form.specs.ShowText.{block_front, records_lines}
 

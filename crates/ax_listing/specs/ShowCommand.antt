@@ -5,7 +5,7 @@ use Rattle.ax_format.specs.Specification.{SpecTree}
 use Rattle.ax_blocks.specs.Commands.{BlockCommand}
 use Rattle.ax_blocks.specs.Made.{IsMadeOf, IsMadeRead, tree_command}
 use Rattle.ax_blocks.specs.Reader.{raw_tree}
-use Rattle.ax_listing.specs.declared.numbered.NumberedBlock.{NumberedBlock}
+use Rattle.ax_blocks.specs.declared.numbered.NumberedBlock.{NumberedBlock}
 use Rattle.ax_text_form.specs.ShowText.{ShowText, OpaqueShown}
 
 -- `show`: the listing of each block, by its number in the input

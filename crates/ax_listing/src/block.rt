@@ -11,10 +11,9 @@ ghost use Rattle.ax_listing.specs.Listing.{ListsBlock};
 ghost use Rattle.ax_listing.specs.ShowCommand.{IsListed, IsReadListed};
 
 use crate::body::show_records;
-use crate::numbered::NumberedBlock;
 use crate::room::ListingRoom;
 use crate::tables::{ListedUap, ListedUaps};
-use ax_blocks::BlockStop;
+use ax_blocks::{BlockStop, NumberedBlock};
 use ax_canon::lay_view;
 use ax_check::Catalogue;
 use ax_codec::Codec;

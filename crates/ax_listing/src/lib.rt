@@ -8,7 +8,6 @@ mod element;
 mod fixed;
 mod kinds;
 mod masked_items;
-mod numbered;
 mod numbers;
 mod paths;
 mod position;

@@ -5,10 +5,9 @@ ghost use Rattle.ax_codec.specs.Standing.{StandForEach};
 ghost use Rattle.ax_listing.specs.ShowCommand.{show_command};
 
 use crate::block::list_block;
-use crate::numbered::NumberedBlock;
 use crate::room::ListingRoom;
 use crate::tables::{ListedUaps, tables_of};
-use ax_blocks::{BlockStop, BlockWork, WorkStop, write_piece};
+use ax_blocks::{BlockStop, BlockWork, NumberedBlock, WorkStop, write_piece};
 use ax_canon::blank_output;
 use ax_check::Catalogue;
 use ax_endpoints::Sink;

@@ -10,9 +10,14 @@ use std::marker::Model;
 ///
 /// Two sequences are equal where their members are: the room after the members and the place in memory are
 /// no part of the list.
-#[derive(Drop)]
 pub struct Sequence<T> {
     members: Vec<T>,
+}
+
+impl<T: Drop> Drop for Sequence<T> {
+    fn drop(self) {
+        let Sequence { members: _members } = self;
+    }
 }
 
 impl<T> Model for Sequence<T> {

@@ -13,20 +13,13 @@ use crate::migrator::Migrator;
 use crate::output::{Outputs, lay_opaque};
 use crate::pieces::{KnownRange, first_too_long, write_blocks};
 use crate::ranges::Fit;
-use ax_blocks::{WorkStop, write_piece};
+use ax_blocks::{NumberedBlock, WorkStop, write_piece};
 use ax_endpoints::{Sink, SinkFailed, write_text};
 use ax_format::RawBlock;
 use ax_walk::scan;
 
 /// The most octets of a data block, and of lines that are kept.
 const LONGEST: u32 = 65_535;
-
-/// A block of an input, and its number there, by which its lines name it.
-#[derive(Clone, Copy)]
-pub(crate) struct NumberedBlock<'r, 'b> {
-    pub(crate) number: u64,
-    pub(crate) raw: &'r RawBlock<'b>,
-}
 
 /// Writes a block of another category as it is, as one piece.
 pub(crate) fn copy_block<K: Sink>(

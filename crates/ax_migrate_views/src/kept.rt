@@ -8,7 +8,7 @@ ghost use Rattle.ax_walk.specs.InPlace.{EndsField};
 ghost use Rattle.ax_walk.specs.RecordRows.{AreRecordRows};
 
 use ax_codec::{Codec, Node};
-use ax_fspec::{Presence, read_presence};
+use ax_fspec::{MarkedItems, Presence, read_presence};
 use ax_moves::{LostKey, SLOTS, are_ordered, keeps, own_move};
 use ax_relation::{Move, Moves};
 use ax_walk::{Notes, RecordRows, marked_item, record_by_rows};
@@ -166,13 +166,6 @@ pub(crate) fn kept_slots(
     let leaving = leaving_items(nodes, links, moves, lost);
     let short = short_items(alloc, nodes, links, moves, lost)?;
     Ok(KeptSlots { leaving, short })
-}
-
-/// The marked slots of a presence field, and the octet after it, at which the first of their items begins.
-#[derive(Clone, Copy)]
-struct MarkedItems {
-    marked: Presence,
-    begin: u32,
 }
 
 /// Whether the item of the slot, if one is given, has fewer octets than `short` has for it. What stands behind it isn't looked at.

@@ -2,10 +2,10 @@
 ghost use Rattle.std.specs.Prelude.{◌≡◌, IfOk};
 ghost use Rattle.ax_migrate_views.specs.Blocks.{command_of};
 
-use crate::block::{NumberedBlock, copy_block, migrate_block};
+use crate::block::{copy_block, migrate_block};
 use crate::migrator::Migrator;
 use crate::output::Outputs;
-use ax_blocks::{BlockWork, WorkStop};
+use ax_blocks::{BlockWork, NumberedBlock, WorkStop};
 use ax_endpoints::Sink;
 use ax_format::RawBlock;
 use std::alloc::{AllocError, Global};

@@ -1,6 +1,6 @@
 //! `convert`: quantities of one edition in another, the lines of what is missed, and what stands where a call fails.
 
-use crate::repeated::Repeated;
+use crate::repeated::{Repeated, by_fx};
 use crate::world::{Left, Outside, Run, bytes, leaves, leaves_octets};
 
 const ONE: &str = "D1 00 06 80 01 00";
@@ -396,13 +396,7 @@ fn long_records_are_converted_or_refused(rt: HostRuntime) {
     let alloc = rt.alloc();
     for &(front, times, status, made, count, last, report) in &LONG {
         let front = bytes(&rt, alloc, front);
-        let input = Repeated {
-            front: &front,
-            times,
-            piece: &[0x01],
-            end: &[0x00],
-        };
-        let input = input.made(&rt, alloc);
+        let input = by_fx(&rt, alloc, &front, times);
         let made = bytes(&rt, alloc, made);
         let last = bytes(&rt, alloc, last);
         let out = Repeated {
@@ -427,13 +421,7 @@ fn long_records_are_converted_or_refused(rt: HostRuntime) {
 #[test]
 fn a_long_record_without_a_quantity_is_refused(rt: HostRuntime) {
     let alloc = rt.alloc();
-    let input = Repeated {
-        front: &[0xD0, 0xFF, 0xFF, 0x80],
-        times: 65_530,
-        piece: &[0x01],
-        end: &[0x00],
-    };
-    let input = input.made(&rt, alloc);
+    let input = by_fx(&rt, alloc, &[0xD0, 0xFF, 0xFF, 0x80], 65_530);
     let want = Left {
         status: 3,
         out: b"",

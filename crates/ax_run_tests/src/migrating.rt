@@ -1,6 +1,6 @@
 //! `migrate`: blocks of one edition in another, the lines of their losses, and what stands where a call fails.
 
-use crate::repeated::{Repeated, largest, moved};
+use crate::repeated::{Repeated, by_fx, largest, moved};
 use crate::world::{Left, Outside, Run, bytes, leaves, leaves_octets};
 
 const PLOT: &str = "30 00 08 A0 19 0C A1 00";
@@ -448,13 +448,7 @@ fn a_migrated_record_is_too_long(rt: HostRuntime) {
     for &(front, times, words, out, report) in &TOO_LONG {
         let front = bytes(&rt, alloc, front);
         let out = bytes(&rt, alloc, out);
-        let input = Repeated {
-            front: &front,
-            times,
-            piece: &[0x01],
-            end: &[0x00],
-        };
-        let input = input.made(&rt, alloc);
+        let input = by_fx(&rt, alloc, &front, times);
         let want = Left {
             status: 3,
             out: out.as_slice(),

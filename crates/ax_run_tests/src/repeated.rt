@@ -24,6 +24,17 @@ impl Repeated<'_> {
     }
 }
 
+/// These octets, and after them a repetitive item by FX of one octet an occurrence, each of the number 0: so many, and the last one.
+pub(crate) fn by_fx(rt: &impl Abort, alloc: Global, front: &[u8], before_last: usize) -> Vec<u8> {
+    let octets = Repeated {
+        front,
+        times: before_last,
+        piece: &[0x01],
+        end: &[0x00],
+    };
+    octets.made(rt, alloc)
+}
+
 /// The largest block of G1, whose records have one item of one octet, and these octets after it.
 pub(crate) fn largest(rt: &impl Abort, alloc: Global, after: &[u8]) -> Vec<u8> {
     let octets = Repeated {

@@ -20,7 +20,7 @@ pub enum FlawKind {
     BadWidth,
     /// An item or a subitem of a fixed kind isn't whole octets.
     NotOctets,
-    /// A part and its FX bit aren't whole octets.
+    /// A part, with the FX bit behind it where it has one, isn't whole octets.
     PartNotOctets,
     /// A counted body, or a by-FX body and its FX bit, isn't whole octets.
     BodyNotOctets,

@@ -22,7 +22,8 @@ pub enum Member {
     Spare { width: u32 },
 }
 
-/// A part of an extended item: its members, after which the field has one FX bit where the part has one.
+/// A part of an extended item: its members. In the octets an FX bit follows them, but for the last part of a closed item
+/// (`LastPart::WithoutFx`).
 pub struct Part {
     pub members: Members,
 }

@@ -20,7 +20,7 @@ pub enum Value {
     Number(u128),
     /// Of a group: one value for each member, spares included.
     Group(Values),
-    /// Of an extended item: one list for each part present.
+    /// Of an extended item: one list for each part that is there, with a value for each member, spares included.
     Extended(Lists),
     /// Of a counted or a by-FX item: one value for each occurrence.
     Repeat(Values),

@@ -6,9 +6,9 @@ use Rattle.std.proofs.Math.Seq.{take-length, drop-length}
 use Rattle.ax_tied_streams.specs.Histories.{Piece, octets_of, lines_of, last_lines, HasMoment}
 use Rattle.ax_tied_streams.specs.Histories.Piece.{to_output, to_report}
 use Rattle.ax_tied_streams.specs.Streams.{Streams}
-use Rattle.ax_tied_streams.specs.Orders.{IsInOrder, IsHeldBack, HasRest, HasGot}
+use Rattle.ax_tied_streams.specs.Orders.{IsInOrder, IsHeldBack, HasRest, HasGot, LacksLines, number_lost}
 use Rattle.ax_tied_streams.specs.declared.puts.Failed.{Failed}
-use Rattle.ax_tied_streams.specs.declared.puts.Failed.TheVariants.{Output, Report}
+use Rattle.ax_tied_streams.specs.declared.puts.Failed.TheVariants.{Output, Report, Both}
 
 pub nil_or_not : (xs : List ℕ) → (xs ≡ []) ⊎ (xs ≢ [])
 nil_or_not [] = inl refl
@@ -126,6 +126,21 @@ got_more_lines o r h s text sound some g =
 number_more : (n m : ℕ) → min (min n (2 ^ 128 - 1) + m) (2 ^ 128 - 1) ≡ min (n + m) (2 ^ 128 - 1)
 number_more n m = omega arith
 
+more_counted : (lost text : List ℕ) (n : ℕ) → n ≡ number_lost lost → min (n + length text) (2 ^ 128 - 1) ≡ number_lost (lost ++ text)
+more_counted lost text n number = ap (λ k. min (k + length text) (2 ^ 128 - 1)) number ∙ number_more (length lost) (length text) ∙ ap (λ k. min k (2 ^ 128 - 1)) (sym (length-append lost text))
+
+lacks_more : (h : List Piece) (octets lines lost text : List ℕ) → LacksLines h octets lines lost → LacksLines (to_report text ∷ h) octets lines (lost ++ text)
+lacks_more h octets lines lost text k = record {
+  octets_lost = k.octets_lost;
+  all_octets = k.all_octets;
+  some = omega (arith, k.some, length-append lost text);
+  all_lines = ap (λ l. l ++ text) k.all_lines ∙ append_assoc lines lost text;
+  behind = elim k.behind as (λ _. (octets ≡ octets_of h) ⊎ (length (last_lines h ++ text) < length (lost ++ text))) [
+    | inl whole ↦ inl whole
+    | inr fewer ↦ inr (omega (arith, fewer, length-append lost text, length-append (last_lines h) text))
+  ];
+}
+
 more_lost : (f : Failed) (h : List Piece) (octets lines text : List ℕ) (s : Streams) → HasRest (Some f) h octets lines s
     → HasRest (Some f) (to_report text ∷ h) octets lines (record s { lost = min (s.lost + length text) (2 ^ 128 - 1) })
 more_lost Output h octets lines text s (lost, k, number) = (
@@ -137,22 +152,11 @@ more_lost Output h octets lines text s (lost, k, number) = (
     all_lines = ap (λ l. l ++ text) k.all_lines ∙ append_assoc lines lost text;
     moment = moment_later _ h _ _ k.moment;
   },
-  ap (λ n. min (n + length text) (2 ^ 128 - 1)) number ∙ number_more (length lost) (length text) ∙ ap (λ n. min n (2 ^ 128 - 1)) (sym (length-append lost text)),
+  more_counted lost text s.lost number,
 )
-more_lost Report h octets lines text s (lost, k, number) = (
-  lost ++ text,
-  record {
-    octets_lost = k.octets_lost;
-    all_octets = k.all_octets;
-    some = omega (arith, k.some, length-append lost text);
-    all_lines = ap (λ l. l ++ text) k.all_lines ∙ append_assoc lines lost text;
-    behind = elim k.behind as (λ _. (octets ≡ octets_of h) ⊎ (length (last_lines h ++ text) < length (lost ++ text))) [
-      | inl whole ↦ inl whole
-      | inr fewer ↦ inr (omega (arith, fewer, length-append lost text, length-append (last_lines h) text))
-    ];
-  },
-  ap (λ n. min (n + length text) (2 ^ 128 - 1)) number ∙ number_more (length lost) (length text) ∙ ap (λ n. min n (2 ^ 128 - 1)) (sym (length-append lost text)),
-)
+more_lost Report h octets lines text s (lost, k, number, (by_then, moment)) =
+    (lost ++ text, lacks_more h octets lines lost text k, more_counted lost text s.lost number, (by_then, moment_later _ h _ _ moment))
+more_lost Both h octets lines text s (lost, k, number) = (lost ++ text, lacks_more h octets lines lost text k, more_counted lost text s.lost number)
 
 rest_dropped : (f : Option Failed) (h : List Piece) (octets lines text : List ℕ) (s : Streams) → IsSome f → HasRest f h octets lines s
     → HasRest f (to_report text ∷ h) octets lines (record s { lost = min (s.lost + length text) (2 ^ 128 - 1) })

@@ -8,13 +8,14 @@ use Rattle.std.proofs.Math.Seq.{take-add, take-length}
 use Rattle.ax_tied_streams.specs.Histories.Piece.{to_output, to_report}
 use Rattle.ax_tied_streams.specs.Histories.{Piece, octets_of, lines_of, last_lines}
 use Rattle.ax_tied_streams.specs.Streams.{Streams}
-use Rattle.ax_tied_streams.specs.Orders.{GoesOn, after_octets, after_lines, after_nothing, IsHeldBack, HasRest, HasGot, EndsAs, HasEnded, TellsEnding, number_lost}
+use Rattle.ax_tied_streams.specs.Orders.{GoesOn, after_octets, after_lines, after_nothing, IsHeldBack, HasRest, HasGot, EndsAs, HasEnded, TellsEnding, number_lost, LacksLines, IsInOrder}
 use Rattle.ax_tied_streams.specs.Held.{HoldsLines, KeepsStop, PutsHeld, emptied, put_of}
-use Rattle.ax_tied_streams.specs.Puts.{StopsAtOctets, StopsAtLines, StopsAt, HasPut}
+use Rattle.ax_tied_streams.specs.Puts.{StopsAtOctets, StopsAtLines, StopsAt, HasPut, AddsOctets}
 use Rattle.ax_tied_streams.specs.declared.puts.Failed.{Failed}
-use Rattle.ax_tied_streams.specs.declared.puts.Failed.TheVariants.{Output, Report}
+use Rattle.ax_tied_streams.specs.declared.puts.Failed.TheVariants.{Output, Report, Both}
 use Rattle.ax_tied_streams.specs.declared.puts.Stop.{Stop}
 use Rattle.ax_tied_streams.specs.declared.streams.Ending.{Ending}
+use Rattle.ax_tied_streams.specs.declared.streams.Ending.TheVariants.{LineLost, OwnLineLost}
 use Rattle.ax_tied_streams.proofs.Steps.{appends_both}
 use Rattle.ax_tied_streams.proofs.Moments.{nil_or_not, none_or_some, got_octets, got_first_lines, got_more_lines, got_dropped, moment_now, moment_at, rest_at}
 
@@ -89,15 +90,14 @@ got_to_octets o r h s s' lost sound g put stop =
 
 -- the lines fail behind the octets
 got_behind : (o r : Option (List ℕ)) (h : List Piece) (s s' : Streams) (lost count : ℕ) → s.failed ≡ None → HasGot o r h s → KeepsStop (Some (stop_of Report lost)) s'
-    → count < length s.lines → Appends s.report s'.report (take count s.lines) → lost + count ≡ length s.lines
-    → s.leading ≤ count → Appends s.output s'.output s.octets → HasGot o r h (emptied s')
-got_behind o r h s s' lost count sound g stop within put_lines rest le put_octets =
+    → StopsAtLines (put_of s s') lost count → s.leading ≤ count → Appends s.output s'.output s.octets → HasGot o r h (emptied s')
+got_behind o r h s s' lost count sound g stop put le put_octets =
     let k : IsHeldBack h g.octets g.lines s = rest_at s.failed None h _ _ s sound g.rest in
     record {
       octets = octets_of h;
       lines = g.lines ++ take count s.lines;
       octets_out = subst (λ l. Appends o s'.output l) (sym k.all_octets) (appends_both o s.output s'.output g.octets s.octets g.octets_out put_octets);
-      lines_out = appends_both r s.report s'.report g.lines _ g.lines_out put_lines;
+      lines_out = appends_both r s.report s'.report g.lines _ g.lines_out put.lines;
       order = record {
         octets_left = [];
         lines_by_then = g.lines ++ take s.leading s.lines;
@@ -110,11 +110,12 @@ got_behind o r h s s' lost count sound g stop within put_lines rest le put_octet
         record {
           octets_lost = [];
           all_octets = sym (append-nil (octets_of h));
-          some = omega (arith, length-drop count s.lines, within);
+          some = omega (arith, length-drop count s.lines, put.within);
           all_lines = k.all_lines ∙ two_parts g.lines s.lines count;
           behind = inl refl;
         },
-        stop.1 ∙ counted s.lines count lost rest stop.2,
+        stop.1 ∙ counted s.lines count lost put.rest stop.2,
+        (lines_of h, moment_now h _ _ refl refl),
       );
     }
 
@@ -123,58 +124,77 @@ some_lines [] n h = absurd (omega (arith, h))
 some_lines (x ∷ xs) n h = λ e. cc
 
 -- the lines fail in front of the last octets
-got_in_front : (o r : Option (List ℕ)) (h : List Piece) (s s' : Streams) (lost count written : ℕ) → s.failed ≡ None → HasGot o r h s → KeepsStop (Some (stop_of Report lost)) s'
-    → count < length s.lines → Appends s.report s'.report (take count s.lines) → lost + count ≡ length s.lines
-    → count < s.leading → written ≤ s.before → Appends s.output s'.output (take written s.octets) → HasGot o r h (emptied s')
-got_in_front o r h s s' lost count written sound g stop within put_lines rest lt le put_octets =
-    let k : IsHeldBack h g.octets g.lines s = rest_at s.failed None h _ _ s sound g.rest in
-    let all : octets_of h ≡ (g.octets ++ take written s.octets) ++ drop written s.octets = k.all_octets ∙ two_parts g.octets s.octets written in
+lacks_in_front : (h : List Piece) (octets lines : List ℕ) (s s' : Streams) (lost count written : ℕ) → IsHeldBack h octets lines s → StopsAtLines (put_of s s') lost count → count < s.leading
+    → LacksLines h (octets ++ take written s.octets) (lines ++ take count s.lines) (drop count s.lines)
+lacks_in_front h octets lines s s' lost count written k put lt =
     let behind : last_lines h ≡ drop s.leading s.lines = k.behind (λ e. absurd (omega (arith, e, lt))) in
+    record {
+      octets_lost = drop written s.octets;
+      all_octets = k.all_octets ∙ two_parts octets s.octets written;
+      some = omega (arith, length-drop count s.lines, put.within);
+      all_lines = k.all_lines ∙ two_parts lines s.lines count;
+      behind = inr (omega (arith, ap length behind, length-drop count s.lines, length-drop s.leading s.lines, lt, put.within, k.leading_within));
+    }
+
+order_in_front : (h : List Piece) (octets lines : List ℕ) (s s' : Streams) (lost count written : ℕ) → IsHeldBack h octets lines s → StopsAtLines (put_of s s') lost count → written ≤ s.before
+    → IsInOrder h (octets ++ take written s.octets) (lines ++ take count s.lines)
+order_in_front h octets lines s s' lost count written k put le = record {
+  octets_left = take (s.before - written) (drop written s.octets);
+  lines_by_then = lines;
+  lines_since = take count s.lines;
+  moment = moment_at h _ _ _ _ (ap (λ l. octets ++ l) (first_parts s.octets written s.before le) ∙ sym (append_assoc octets _ _)) refl (k.before (some_lines s.lines count put.within));
+  lines_out = refl;
+}
+
+got_in_front : (o r : Option (List ℕ)) (h : List Piece) (s s' : Streams) (lost count : ℕ) → s.failed ≡ None → HasGot o r h s → KeepsStop (Some (stop_of Report lost)) s'
+    → StopsAtLines (put_of s s') lost count → count < s.leading → Appends s.output s'.output (take s.before s.octets) → HasGot o r h (emptied s')
+got_in_front o r h s s' lost count sound g stop put lt put_octets =
+    let k : IsHeldBack h g.octets g.lines s = rest_at s.failed None h _ _ s sound g.rest in
+    record {
+      octets = g.octets ++ take s.before s.octets;
+      lines = g.lines ++ take count s.lines;
+      octets_out = appends_both o s.output s'.output g.octets _ g.octets_out put_octets;
+      lines_out = appends_both r s.report s'.report g.lines _ g.lines_out put.lines;
+      order = order_in_front h g.octets g.lines s s' lost count s.before k put (omega arith);
+      rest = rest_at (Some Report) s'.failed h _ _ (emptied s') (sym stop.0) (
+        drop count s.lines,
+        lacks_in_front h g.octets g.lines s s' lost count s.before k put lt,
+        stop.1 ∙ counted s.lines count lost put.rest stop.2,
+        (g.lines, k.before (some_lines s.lines count put.within)),
+      );
+    }
+
+got_both : (o r : Option (List ℕ)) (h : List Piece) (s s' : Streams) (lost count written : ℕ) → s.failed ≡ None → HasGot o r h s → KeepsStop (Some (stop_of Both lost)) s'
+    → StopsAtLines (put_of s s') lost count → count < s.leading → written < s.before → Appends s.output s'.output (take written s.octets) → HasGot o r h (emptied s')
+got_both o r h s s' lost count written sound g stop put lt fewer put_octets =
+    let k : IsHeldBack h g.octets g.lines s = rest_at s.failed None h _ _ s sound g.rest in
     record {
       octets = g.octets ++ take written s.octets;
       lines = g.lines ++ take count s.lines;
       octets_out = appends_both o s.output s'.output g.octets _ g.octets_out put_octets;
-      lines_out = appends_both r s.report s'.report g.lines _ g.lines_out put_lines;
-      order = record {
-        octets_left = take (s.before - written) (drop written s.octets);
-        lines_by_then = g.lines;
-        lines_since = take count s.lines;
-        moment = moment_at h _ _ _ _ (ap (λ l. g.octets ++ l) (first_parts s.octets written s.before le) ∙ sym (append_assoc g.octets _ _)) refl (k.before (some_lines s.lines count within));
-        lines_out = refl;
-      };
-      rest = rest_at (Some Report) s'.failed h _ _ (emptied s') (sym stop.0) (
-        drop count s.lines,
-        record {
-          octets_lost = drop written s.octets;
-          all_octets = all;
-          some = omega (arith, length-drop count s.lines, within);
-          all_lines = k.all_lines ∙ two_parts g.lines s.lines count;
-          behind = inr (omega (arith, ap length behind, length-drop count s.lines, length-drop s.leading s.lines, lt, within, k.leading_within));
-        },
-        stop.1 ∙ counted s.lines count lost rest stop.2,
-      );
+      lines_out = appends_both r s.report s'.report g.lines _ g.lines_out put.lines;
+      order = order_in_front h g.octets g.lines s s' lost count written k put (omega (arith, fewer));
+      rest = rest_at (Some Both) s'.failed h _ _ (emptied s') (sym stop.0)
+          (drop count s.lines, lacks_in_front h g.octets g.lines s s' lost count written k put lt, stop.1 ∙ counted s.lines count lost put.rest stop.2);
     }
 
-pub got_to_lines : (o r : Option (List ℕ)) (h : List Piece) (s s' : Streams) (lost : ℕ) → s.failed ≡ None → HasGot o r h s → StopsAtLines (put_of s s') lost → KeepsStop (Some (stop_of Report lost)) s' → HasGot o r h (emptied s')
-got_to_lines o r h s s' lost sound g put stop = elim put.octets [
-  | inl p ↦ got_behind o r h s s' lost put.count sound g stop put.within put.lines put.rest p.0 p.1
-  | inr p ↦ got_in_front o r h s s' lost put.count p.1.0 sound g stop put.within put.lines put.rest p.0 p.1.1 p.1.2
+got_to_lines : (o r : Option (List ℕ)) (h : List Piece) (s s' : Streams) (lost count : ℕ) → s.failed ≡ None → HasGot o r h s → StopsAtLines (put_of s s') lost count → AddsOctets (put_of s s') count
+    → KeepsStop (Some (stop_of Report lost)) s' → HasGot o r h (emptied s')
+got_to_lines o r h s s' lost count sound g put octets stop = elim octets [
+  | inl p ↦ got_behind o r h s s' lost count sound g stop put p.0 p.1
+  | inr p ↦ got_in_front o r h s s' lost count sound g stop put p.0 p.1
 ]
 
 pub got_stopped : (o r : Option (List ℕ)) (h : List Piece) (s s' : Streams) (failed : Failed) (lost : ℕ) → s.failed ≡ None → HasGot o r h s → StopsAt failed lost (put_of s s') → KeepsStop (Some (stop_of failed lost)) s' → HasGot o r h (emptied s')
 got_stopped o r h s s' Output lost sound g put stop = got_to_octets o r h s s' lost sound g put stop
-got_stopped o r h s s' Report lost sound g put stop = got_to_lines o r h s s' lost sound g put stop
+got_stopped o r h s s' Report lost sound g put stop = got_to_lines o r h s s' lost put.0 sound g put.1 put.2 stop
+got_stopped o r h s s' Both lost sound g (count, put, (lt, (written, fewer, octets))) stop = got_both o r h s s' lost count written sound g stop put lt fewer octets
 
 pub none_of : (f : Option Failed) → is_some f ≡ false → f ≡ None
 none_of None e = refl
 none_of (Some f) e = cc
 
 -- ---- nothing is written
-
-rest_stays : (f : Option Failed) (h : List Piece) (octets lines : List ℕ) (s s' : Streams) → IsSome f → s'.lost ≡ s.lost → HasRest f h octets lines s → HasRest f h octets lines s'
-rest_stays None h octets lines s s' some e k = cc
-rest_stays (Some Output) h octets lines s s' some e (lost, k, n) = (lost, k, e ∙ n)
-rest_stays (Some Report) h octets lines s s' some e (lost, k, n) = (lost, k, e ∙ n)
 
 got_put : (stop : Option Stop) (o r : Option (List ℕ)) (h : List Piece) (s s' : Streams) → s.failed ≡ None → HasGot o r h s → HasPut stop (put_of s s') → KeepsStop stop s' → HasGot o r h (emptied s')
 got_put None o r h s s' sound g put kept = got_whole o r h s s' sound g put kept
@@ -189,6 +209,7 @@ got_emptied : (f : Option Failed) (h : List Piece) (octets lines : List ℕ) (s 
 got_emptied None h octets lines s some k = cc
 got_emptied (Some Output) h octets lines s some k = k
 got_emptied (Some Report) h octets lines s some k = k
+got_emptied (Some Both) h octets lines s some k = k
 
 pub goes_on_still : (s t : Streams) → IsSome s.failed → t ≡ emptied s → GoesOn after_nothing s t
 goes_on_still s t some e o r h g = subst (λ x. HasGot o r h x) (sym e) (record {
@@ -212,6 +233,7 @@ rest_asked None h octets lines s input k = record {
 }
 rest_asked (Some Output) h octets lines s input k = k
 rest_asked (Some Report) h octets lines s input k = k
+rest_asked (Some Both) h octets lines s input k = k
 
 -- the input was asked
 pub goes_on_asked : (s : Streams) (input : Option (List ℕ)) → GoesOn after_nothing s (record s { input = input })
@@ -260,25 +282,29 @@ goes_on_then next s t u first second o r h g = second o r h (first o r h g)
 
 -- ---- the end
 
+line_lost : (h : List Piece) (octets lines lost : List ℕ) (n own : ℕ) (ending : Ending) → own < 2 ^ 64 → LacksLines h octets lines lost → n ≡ number_lost lost
+    → (own < n → ending ≡ LineLost) → (n ≤ own → ending ≡ OwnLineLost) → EndsAs ending h octets lines own
+line_lost h octets lines lost n own ending fits k number before_own of_own = elim (cases_lt own n) [
+  | inl lt ↦ subst (λ e. EndsAs e h octets lines own) (sym (before_own lt)) (lost, k, omega (arith, number, lt))
+  | inr le ↦ subst (λ e. EndsAs e h octets lines own) (sym (of_own le)) (
+    lost,
+    k,
+    omega (arith, number, le, fits),
+    λ last.
+        elim k.behind [
+          | inl whole ↦ whole
+          | inr fewer ↦ absurd (omega (arith, number, le, fits, last, fewer))
+        ],
+  )
+]
+
 ends : (f : Option Failed) (h : List Piece) (octets lines : List ℕ) (s : Streams) (own : ℕ) (ending : Ending) → s.octets ≡ [] → s.lines ≡ [] → own < 2 ^ 64
     → HasRest f h octets lines s → TellsEnding f s.lost own ending → EndsAs ending h octets lines own
 ends None h octets lines s own ending no_octets no_lines fits k t = subst (λ e. EndsAs e h octets lines own) (sym t)
     (sym (k.all_octets ∙ ap (λ l. octets ++ l) no_octets ∙ append-nil octets), sym (k.all_lines ∙ ap (λ l. lines ++ l) no_lines ∙ append-nil lines))
 ends (Some Output) h octets lines s own ending no_octets no_lines fits (lost, k, n) t = subst (λ e. EndsAs e h octets lines own) (sym t) (lost, k)
-ends (Some Report) h octets lines s own ending no_octets no_lines fits (lost, k, n) t =
-    elim (cases_lt own s.lost) [
-      | inr le ↦ subst (λ e. EndsAs e h octets lines own) (sym (t.1 le)) (
-        lost,
-        k,
-        omega (arith, n, le, fits),
-        λ last.
-            elim k.behind [
-              | inl whole ↦ whole
-              | inr fewer ↦ absurd (omega (arith, n, le, fits, last, fewer))
-            ],
-      )
-      | inl lt ↦ subst (λ e. EndsAs e h octets lines own) (sym (t.0 lt)) (lost, k, omega (arith, n, lt))
-    ]
+ends (Some Report) h octets lines s own ending no_octets no_lines fits (lost, k, n, whole) t = line_lost h octets lines lost s.lost own ending fits k n t.0 t.1
+ends (Some Both) h octets lines s own ending no_octets no_lines fits (lost, k, n) t = line_lost h octets lines lost s.lost own ending fits k n t.0 t.1
 
 pub got_ended : (o r : Option (List ℕ)) (h : List Piece) (s : Streams) (own : ℕ) (ending : Ending) → s.octets ≡ [] → s.lines ≡ [] → own < 2 ^ 64
     → TellsEnding s.failed s.lost own ending → HasGot o r h s → HasEnded o r s.output s.report h own ending

@@ -5,7 +5,7 @@ use Rattle.ax_tied_streams.specs.Histories.{Piece, octets_of, lines_of, last_lin
 use Rattle.ax_tied_streams.specs.Histories.Piece.{to_output, to_report}
 use Rattle.ax_tied_streams.specs.Streams.{Streams}
 use Rattle.ax_tied_streams.specs.declared.puts.Failed.{Failed}
-use Rattle.ax_tied_streams.specs.declared.puts.Failed.TheVariants.{Output, Report}
+use Rattle.ax_tied_streams.specs.declared.puts.Failed.TheVariants.{Output, Report, Both}
 use Rattle.ax_tied_streams.specs.declared.streams.Ending.{Ending}
 use Rattle.ax_tied_streams.specs.declared.streams.Ending.TheVariants.{Whole, OutputFailed, LineLost, OwnLineLost}
 
@@ -50,11 +50,13 @@ pub record LacksLines (history : List Piece) (octets lines lost : List ℕ) : Ty
 abbrev pub number_lost : List ℕ → ℕ
 number_lost lost = min (length lost) (2 ^ 128 - 1)
 
--- what isn't out of these octets and lines, by the write that has failed
+-- what isn't out of these octets and lines, by the write that has failed; where that was one to the report alone, the octets are those of
+-- whole pieces, up to some moment
 abbrev pub HasRest : Option Failed → List Piece → List ℕ → List ℕ → Streams → Type 0
 HasRest None history octets lines s = IsHeldBack history octets lines s
 HasRest (Some Output) history octets lines s = (lost : List ℕ) × LacksOctets history octets lines lost × (s.lost ≡ number_lost lost)
-HasRest (Some Report) history octets lines s = (lost : List ℕ) × LacksLines history octets lines lost × (s.lost ≡ number_lost lost)
+HasRest (Some Report) history octets lines s = (lost : List ℕ) × LacksLines history octets lines lost × (s.lost ≡ number_lost lost) × ((by_then : List ℕ) × HasMoment history octets by_then)
+HasRest (Some Both) history octets lines s = (lost : List ℕ) × LacksLines history octets lines lost × (s.lost ≡ number_lost lost)
 
 -- since the output and the report told that they hold this, the history was given: some of it is out, in order, each a prefix of what was
 -- given; where no write has failed, the rest is held back
@@ -103,3 +105,4 @@ abbrev pub TellsEnding : Option Failed → ℕ → ℕ → Ending → Type 0
 TellsEnding None lost own ending = ending ≡ Whole
 TellsEnding (Some Output) lost own ending = ending ≡ OutputFailed
 TellsEnding (Some Report) lost own ending = (own < lost → ending ≡ LineLost) × (lost ≤ own → ending ≡ OwnLineLost)
+TellsEnding (Some Both) lost own ending = (own < lost → ending ≡ LineLost) × (lost ≤ own → ending ≡ OwnLineLost)

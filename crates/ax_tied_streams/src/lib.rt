@@ -8,3 +8,6 @@ mod streams;
 
 pub use faces::{TiedReader, TiedReport, TiedWriter};
 pub use streams::{Closed, Ending, TiedStreams};
+
+#[cfg(test)]
+mod tests;

@@ -10,6 +10,8 @@ use std::io::Write;
 pub(crate) enum Failed {
     Output,
     Report,
+    /// One to the report, and then one of the octets before all lines.
+    Both,
 }
 
 /// A write that failed, and how many octets of the lines weren't written then.
@@ -60,9 +62,13 @@ pub(crate) fn put_all<W: Write, P: Write>(
 {
     let count = put(report, &lines[..leading]);
     if count < leading {
-        let _ = put(output, &octets[..before]);
+        let is_whole = put(output, &octets[..before]) == before;
         return Some(Stop {
-            failed: Failed::Report,
+            failed: if is_whole {
+                Failed::Report
+            } else {
+                Failed::Both
+            },
             lost: lines.len() - count,
         });
     }

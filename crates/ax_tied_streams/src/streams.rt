@@ -227,8 +227,8 @@ impl<R: Read + Drop, W: Write + Drop, P: Write + Drop> TiedStreams<R, W, P> {
         match self.failed {
             None => Ending::Whole,
             Some(Failed::Output) => Ending::OutputFailed,
-            Some(Failed::Report) if (own as u128) < self.lost => Ending::LineLost,
-            Some(Failed::Report) => Ending::OwnLineLost,
+            Some(Failed::Report | Failed::Both) if (own as u128) < self.lost => Ending::LineLost,
+            Some(Failed::Report | Failed::Both) => Ending::OwnLineLost,
         }
     }
 

@@ -236,14 +236,16 @@ rest_asked (Some Report) h octets lines s input k = k
 rest_asked (Some Both) h octets lines s input k = k
 
 -- the input was asked
-pub goes_on_asked : (s : Streams) (input : Option (List ℕ)) → GoesOn after_nothing s (record s { input = input })
-goes_on_asked s input o r h g = record {
+pub got_asked : (o r : Option (List ℕ)) (h : List Piece) (input input' output report : Option (List ℕ)) (octets lines : List ℕ) (before leading lost : ℕ) (failed : Option Failed)
+    → HasGot o r h (record { input = input; output = output; report = report; octets = octets; lines = lines; before = before; leading = leading; lost = lost; failed = failed })
+    → HasGot o r h (record { input = input'; output = output; report = report; octets = octets; lines = lines; before = before; leading = leading; lost = lost; failed = failed })
+got_asked o r h input input' output report octets lines before leading lost failed g = record {
   octets = g.octets;
   lines = g.lines;
   octets_out = g.octets_out;
   lines_out = g.lines_out;
   order = g.order;
-  rest = rest_asked s.failed h g.octets g.lines s input g.rest;
+  rest = rest_asked failed h g.octets g.lines _ input' g.rest;
 }
 
 -- ---- what is taken

@@ -180,6 +180,7 @@ impl<R: Read + Drop, W: Write + Drop, P: Write + Drop> TiedStreams<R, W, P> {
 
     /// Writes all that is held back, and then asks the input once. Where a write has failed, now or before, the input isn't asked.
     #[inline(never)]
+    #[tactic(auto, using(crate::proofs::Writes::got_asked))]
     pub fn read(&mut self, into: &mut [u8]) -> io::Result<usize>
         ensures bound { ReadsAtMost result into.new }
         ensures bytes { ReadConsumes (streams_of self.old).input (streams_of self.new).input result into.new }

@@ -169,10 +169,10 @@ fn pieces_of_any_length_come_whole(rt: HostRuntime) -> io::Result<()> {
     let mut report = TiedReport::new(&streams);
     let mut octets = Vec::new(alloc);
     let mut lines = Vec::new(alloc);
-    for length in [0, 1, 65_535, 131_072, 1, 131_071, 131_073, 300_000, 2] {
+    for length in [0usize, 1, 65_535, 131_072, 1, 131_071, 131_073, 300_000, 2] {
         let mut piece = Vec::new(alloc);
         for at in 0..length {
-            piece.push((at % 251) as u8)?;
+            piece.push((at & 0xff) as u8)?;
         }
         output.write_all(&piece)?;
         octets.extend_from_slice(&piece)?;

@@ -208,7 +208,7 @@ def try_case(room: str, case: Case, faults: Faults) -> None:
         faults.compare(case, f"the last line, output to {way}", end, FAULT)
         if len(good.output) + len(whole) < 131_072:
             faults.compare(case, f"the lines before it, output to {way}", lines, "".join(case.report[: case.leading]))
-        elif not "".join(case.report[: case.leading]).startswith(lines) or not (lines + "\n").endswith("\n"):
+        elif not "".join(case.report[: case.leading]).startswith(lines) or (lines and not lines.endswith("\n")):
             faults.tell(case, f"output to {way}: {shortened(lines)} aren't lines before the octets")
     before = good.output
     if case.leading:

@@ -110,6 +110,7 @@ module _ (c : BlockCommand) (limit : ℕ) (Kept : List RawTree → Type 0) (i : 
 
   pub refused_over : (Also : List ℕ → Type 0) → ((octets : List ℕ) (end : FramingEnd) → RemembersUpTo Kept limit octets end → Also octets) → (e : NextError) → OnEnd {A = RawBlock} (Err e) (FindsEnd limit given i.left' next i.taken' t') → OnReadFault {A = RawBlock} (Err e) (StopsUnfinished limit given i.left' next i.taken' t')
       → RunsOver c limit onward o r (error_end count e) Also
+  unfolding so_far followed
   refused_over Also also BadLen f u = ended_over Also also bad_len f (λ m is. absurd (cc))
   refused_over Also also (EndsInHeader bit) f u = ended_over Also also (ends_in_header bit) f (λ m is. absurd (cc))
   refused_over Also also (EndsInBlock bit) f u = ended_over Also also (ends_in_block bit) f (λ m is. absurd (cc))
@@ -125,6 +126,7 @@ module _ (c : BlockCommand) (limit : ℕ) (Kept : List RawTree → Type 0) (i : 
     -- the work stops
     pub stopped_over : (Later : List RawTree → Type 0) → ((raws : List RawTree) → Kept raws → Later (raws ++ raw ∷ [])) → (Also : List ℕ → Type 0) → ((octets : List ℕ) → RemembersAll Later limit octets → Also octets)
         → (stop : WorkStop) → StopsFor c count raw p q stop → RunsOver c limit onward (both o p) (both r q) (stop_end count stop) Also
+    unfolding gives_alone
     stopped_over Later keeps Also also stop h =
         let took : Took i.left next i.taken t' (s.octets ++ g.octets) = all_taken g.octets g.took in record {
           octets = s.octets ++ g.octets;

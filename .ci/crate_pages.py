@@ -4,7 +4,7 @@ Each crate has one, of 10 to 40 lines and at most 400 words, with the headings o
 the crates and libraries of the crate's line in crates.txt, and no others. A word in backquotes is held where it is one of these:
 
 - A name of code: it has an underscore, `::`, or a capital letter and a small one. After a leading name of a crate, all names of it
-  stand as whole words in one .rt or .antt file of the crate, or of a crate below it.
+  stand as whole words in one .rt or .antt file of the crate, or of a crate below it; where they are several, not in a lib.rt.
 - A name of a crate: it is one of crates.txt. Crates above may be named too.
 - A path, which has a `/`: it is there from the crate's folder, or from the top of the repository.
 - A name of an edit: it is one of the crate's, in `must-fail/` or in `.ci/edits/`.
@@ -38,10 +38,10 @@ def reached(crate: str, below: dict[str, list[str]]) -> set[str]:
     return found
 
 
-def words_by_file(folder: pathlib.Path) -> list[set[str]]:
-    """The words of each .rt and .antt file of a crate."""
+def words_by_file(folder: pathlib.Path) -> list[tuple[bool, set[str]]]:
+    """Of each .rt and .antt file of a crate whether it is its root file, and its words."""
     files = [it for it in sorted(folder.rglob("*")) if it.suffix in (".rt", ".antt") and "out" not in it.parts]
-    return [set(re.findall(r"\w+", it.read_text())) for it in files]
+    return [(it.name == "lib.rt", set(re.findall(r"\w+", it.read_text()))) for it in files]
 
 
 def is_name(piece: str) -> bool:
@@ -79,7 +79,7 @@ def standing_faults(page: str, names: list[str], below: dict[str, list[str]]) ->
     return [f'names {name} in "Stands on", or doesn\'t, against crates.txt' for name in sorted(named ^ set(names))]
 
 
-def name_faults(top: pathlib.Path, crate: str, page: str, below: dict[str, list[str]], words: dict[str, list[set[str]]]) -> list[str]:
+def name_faults(top: pathlib.Path, crate: str, page: str, below: dict[str, list[str]], words: dict[str, list[tuple[bool, set[str]]]]) -> list[str]:
     """The words in backquotes that name nothing."""
     said = []
     folder = top / "crates" / crate
@@ -93,7 +93,9 @@ def name_faults(top: pathlib.Path, crate: str, page: str, below: dict[str, list[
             names = piece.split("::")
             if len(names) > 1 and names[0] in below:
                 names = names[1:]
-            if not any(all(name in file for name in names) for file in seen):
+            # A root file names all that is public, whatever belongs together.
+            files = [file for is_root, file in seen if len(names) == 1 or not is_root]
+            if not any(all(name in file for name in names) for file in files):
                 said.append(f"names {piece}, which is in no file of the crate and of those below it")
     return said
 

@@ -17,6 +17,8 @@ import re
 import sys
 
 LEAST_LINES, MOST_LINES, MOST_WORDS = 10, 40, 400
+# Of each file of a crate whether it is its root file, and its words.
+FileWords = list[tuple[bool, set[str]]]
 HEADINGS = ["Calls", "Proved", "Tested only, or neither", "Must-fail edits", "Stands on"]
 
 
@@ -38,7 +40,7 @@ def reached(crate: str, below: dict[str, list[str]]) -> set[str]:
     return found
 
 
-def words_by_file(folder: pathlib.Path) -> list[tuple[bool, set[str]]]:
+def words_by_file(folder: pathlib.Path) -> FileWords:
     """Of each .rt and .antt file of a crate whether it is its root file, and its words."""
     files = [it for it in sorted(folder.rglob("*")) if it.suffix in (".rt", ".antt") and "out" not in it.parts]
     return [(it.name == "lib.rt", set(re.findall(r"\w+", it.read_text()))) for it in files]
@@ -79,7 +81,7 @@ def standing_faults(page: str, names: list[str], below: dict[str, list[str]]) ->
     return [f'names {name} in "Stands on", or doesn\'t, against crates.txt' for name in sorted(named ^ set(names))]
 
 
-def name_faults(top: pathlib.Path, crate: str, page: str, below: dict[str, list[str]], words: dict[str, list[tuple[bool, set[str]]]]) -> list[str]:
+def name_faults(top: pathlib.Path, crate: str, page: str, below: dict[str, list[str]], words: dict[str, FileWords]) -> list[str]:
     """The words in backquotes that name nothing."""
     said = []
     folder = top / "crates" / crate

@@ -63,7 +63,8 @@ class BadPage(Exception):
 
 def blocks_of(page: str, text: str) -> list[tuple[int, str, str]]:
     """The blocks of a page: the line of each, from 1, the words after its ```, and its content."""
-    found, begun = [], None
+    found: list[tuple[int, str, str]] = []
+    begun: tuple[int, str, list[str]] | None = None
     for number, line in enumerate(text.splitlines(), 1):
         if begun is None:
             if line.startswith("```"):

@@ -1,4 +1,4 @@
-"""Holds crates.txt to its layers, the picture of the architecture to crates.txt, and each crate's README to its crate.
+"""Holds crates.txt to its layers, the picture of the architecture to crates.txt, and what else is said of each crate and library.
 
 - Each crate stands under exactly one heading (a line `# LAYER: words`), and the crates that it uses are in lower layers or listed
   before it in its own.
@@ -6,6 +6,7 @@
 - The table of docs/architecture.dot has the same crates in the same layers, the highest layer first, and its other texts name no
   crate that isn't there.
 - docs/architecture.svg is drawn from that file: each node has the same texts, and the same edges are drawn.
+- docs/THIRD-PARTY.md has a row of each library that a crate uses and that isn't the repository's own.
 - What .ci/crate_pages.py holds of the crates' READMEs.
 """
 
@@ -157,6 +158,13 @@ def picture_faults(top: pathlib.Path, layers: list[tuple[str, list[str]]]) -> It
         yield f"docs/architecture.svg: {first} -> {last} is drawn in only one of it and docs/architecture.dot: draw it again (CONTRIBUTING.md)"
 
 
+def library_faults(top: pathlib.Path, uses: dict[str, list[str]]) -> Iterator[str]:
+    """Libraries that a crate uses and docs/THIRD-PARTY.md has no row of."""
+    rows = set(re.findall(r"^\| (\w+) \|", (top / "docs/THIRD-PARTY.md").read_text(), re.M))
+    for name in sorted({lower for lowers in uses.values() for lower in lowers} - uses.keys() - rows):
+        yield f"docs/THIRD-PARTY.md has no row of {name}, which crates.txt names"
+
+
 def page_faults(top: pathlib.Path, uses: dict[str, list[str]]) -> list[str]:
     """What .ci/crate_pages.py says of the READMEs of the crates."""
     sys.path.insert(0, str(pathlib.Path(__file__).resolve().parent))
@@ -174,7 +182,7 @@ def main() -> int:
     top = parser.parse_args().top
     text = (top / "crates.txt").read_text()
     layers, uses = layers_of(text), uses_of(text)
-    faults = [*line_faults(text), *layer_faults(layers, uses), *picture_faults(top, layers), *page_faults(top, uses)]
+    faults = [*line_faults(text), *layer_faults(layers, uses), *picture_faults(top, layers), *library_faults(top, uses), *page_faults(top, uses)]
     for fault in faults:
         print(f"checks: {fault}", file=sys.stderr)
     return bool(faults)

@@ -173,6 +173,7 @@ def library_faults(top: pathlib.Path, uses: dict[str, list[str]]) -> Iterator[st
 def page_faults(top: pathlib.Path, uses: dict[str, list[str]]) -> list[str]:
     """What .ci/crate_pages.py says of the READMEs of the crates."""
     sys.path.insert(0, str(pathlib.Path(__file__).resolve().parent))
+    sys.dont_write_bytecode = True
     try:
         pages = importlib.import_module("crate_pages")
     except ModuleNotFoundError:

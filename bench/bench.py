@@ -1,15 +1,15 @@
 #!/usr/bin/env python3
 """bench.py [--mb MB] [--rounds N] [--only WORD] [BINARY]
 
-Compares the commands of BINARY (else crates/asterix/out/asterix) with decoder.rs, which is built here with rustc -O, on a
-stream of make_stream.py. Each round runs `cat`, the decoder and each command once, one after another, from a file to
-/dev/null, standard error too. --only leaves the rows whose name has WORD, and the decoder. A row of the table says:
+Compares the commands of BINARY (else crates/asterix/out/asterix) with decoder.rs on a stream of make_stream.py. The decoder is built
+here with rustc -O. Each round runs `cat`, the decoder and each command once, one after another. Each run reads a file and writes to
+/dev/null, standard error too. --only keeps the decoder and the rows whose name has WORD. A row of the table says:
 
-  time      the median of the rounds as a multiple of the decoder's median, and [the least..the greatest]; for migrate, convert and
-            expand, the decoder's on the same blocks, those of category 048; for build, the decoder's on the blocks that it makes
-  processor the time on a processor, likewise
-  MB/s      octets of data blocks by the median time; of build those that it makes, of the others those that they read
-  peak kB   the greatest memory in use at a time, of a run apart from the rounds
+  time      the median of the rounds as a multiple of the decoder's median, and [the least..the greatest]. For migrate, convert and
+            expand it is the decoder's on the same blocks, those of category 048; for build the decoder's on the blocks that it makes
+  processor the time on a processor, in the same way
+  MB/s      octets of data blocks by the median time: for build those that it makes, for the others those that they read
+  peak kB   the greatest memory in use, of a run apart from the rounds
 """
 import argparse
 import ctypes

@@ -1,7 +1,7 @@
-//! A decoder of two layouts alone, those of samples/048-P1 and samples/034-P1, written by hand: the measure with which the
-//! commands of `asterix` are compared. It reads data blocks from standard input, walks over each record item by item to its
-//! last field, adds up the numbers of all fields (elements, spare bits, and the octets of explicit contents, modulo 2^64),
-//! and prints what it counted. The first fault ends it, with the line and the status that `asterix canon` gives.
+//! A decoder of two layouts alone, those of samples/048-P1 and samples/034-P1, written by hand. The commands of `asterix` are
+//! compared with it. It reads data blocks from standard input and walks over each record item by item to its last field. It adds
+//! up the numbers of all fields (elements, spare bits, and the octets of explicit contents, modulo 2^64), and prints what it
+//! counted. The first fault ends it, with the line and the status that `asterix canon` gives.
 //!
 //!     rustc -O decoder.rs
 use std::fs::File;

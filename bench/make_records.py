@@ -1,10 +1,10 @@
 #!/usr/bin/env python3
 """make_records.py CATEGORY_FILE MEGABYTES [SEED] > STREAM
 
-Writes a stream of data blocks of records of one category by its file, in canonical form: the items and subitems that are there
-are chosen by chance, most of an item's, a third of a compound's, and each number is by chance. A category file here is one of
-elements, groups, spare bits, extended items with an FX in each part, counted items of one octet, items by FX, compounds and explicit
-items: what categories/ has. The same words give the same octets, under one version of Python."""
+Writes a stream of data blocks of one category by its file, in canonical form. Items, subitems and numbers are random: most items of a
+record are there, and a third of the subitems of a compound. The category file may have what the files of categories/ have: elements,
+groups, spare bits, extended items with FX in each part, counted items, items by FX, compounds and explicit items. The same words give
+the same octets under one version of Python."""
 import argparse
 import random
 import re

@@ -1,11 +1,10 @@
 #!/usr/bin/env python3
 """make_stream.py MEGABYTES [SEED] [--redundant P] > STREAM
 
-Writes a stream of data blocks under samples/048-P1 and samples/034-P1, as a radar would send them. In each turn of the
-antenna there are a north marker, 32 sector messages of category 034 and, after each of those, the reports of the targets
-in that sector: blocks of category 048 with 1 to 14 records. The same words give the same octets, under one version of
-Python. Without --redundant the stream is in canonical form; with it, a record gets with probability P a presence octet
-that marks nothing, where its presence field has room for one."""
+Writes a stream of data blocks under samples/048-P1 and samples/034-P1, as a radar would send them. Each turn of the antenna has a north
+marker and 32 sector messages of category 034. After each sector message are the reports of the targets in that sector: blocks of
+category 048 with 1 to 14 records. The same words give the same octets under one version of Python. Without --redundant the stream is in
+canonical form. With it a record gets with probability P a presence octet that marks nothing, if its presence field has room."""
 import argparse
 import functools
 import math

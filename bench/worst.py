@@ -1,20 +1,20 @@
 #!/usr/bin/env python3
 """worst.py [--mb MB] [--rounds N] [--only WORD] [BINARY]
 
-Measures BINARY (else crates/asterix/out/asterix) on inputs by which a category file, an expression or a text stretches the time of a
-command, and on the usual stream, which is that of make_stream.py under samples/048-P1 and samples/034-P1. The inputs are made here, in
-a temporary folder. Each run goes from a file to /dev/null, standard error too. --only leaves the rows whose name or command has WORD,
-and the usual ones of their commands. A row of the table says:
+Measures BINARY (else crates/asterix/out/asterix) on inputs that take a command much time: by their category files, their expression or
+their text. It also measures the usual stream, that of make_stream.py under samples/048-P1 and samples/034-P1. The inputs are made here,
+in a temporary folder. Each run reads a file and writes to /dev/null, standard error too. --only keeps the rows whose name or command has
+WORD, and the usual rows of their commands. A row of the table says:
 
-  name      what is particular in the category files, the expression or the text; and in the data, where that matters
+  name      what is particular in the category files, the expression or the text, and sometimes in the data
   command   of the program; `build` reads what `text` writes of the same data
   in        octets on standard input; category files and expressions aren't counted
   out       octets on standard output and standard error together, counted in a run apart
-  seconds   the time on a processor, the least of the rounds; the reading of the category files is in it. A run that takes more than
-            20 of these seconds is stopped, and then `> 20 s` stands here
+  seconds   the time on a processor, the least of the rounds, with the reading of the category files. A run that takes more than
+            20 of these seconds is stopped, and the row has `> 20 s`
   ns/octet  nanoseconds of that time for each octet of in and out together
-  usual     ns/octet as a multiple of that of the usual stream for the same command, of this run. For `migrate` and `convert` that is its blocks of
-            category 048 from samples/048-P1 to samples/048-P2, for `filter` the test `is 048/010/SAC = 25`
+  usual     ns/octet as a multiple of that of the usual stream for the same command, in this run. For `migrate` and `convert` these are
+            its blocks of category 048, from samples/048-P1 to samples/048-P2; for `filter` the test is `is 048/010/SAC = 25`
 
 Each run has to end with status 0, and to write something."""
 import argparse

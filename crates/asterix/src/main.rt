@@ -1,5 +1,6 @@
 //! The program `asterix`: it makes the real library and the real streams, and leaves all else to `run`.
 #![tactic(auto)]
+
 ghost use Rattle.std.specs.Prelude.{◌≡◌, Some, None};
 ghost use Rattle.ax_command.specs.declared.outcome.Outcome.TheVariants.{WriteFault, ReportFault};
 ghost use Rattle.ax_command.specs.Status.{status_of};

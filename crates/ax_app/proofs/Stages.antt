@@ -27,7 +27,7 @@ use Rattle.ax_load.specs.declared.fault.SpecFault.{SpecFault}
 use Rattle.ax_load.specs.declared.fault.SpecFault.TheVariants.{TooLarge, BadByte, TooDeep, BadToken, Flawed}
 use Rattle.ax_format.specs.Specification.{SpecTree}
 use Rattle.ax_endpoints.proofs.Ends.{with_end-nil, Rose-later}
-use Rattle.ax_endpoints.specs.Changes.{none_counted, LibraryCounts, SourceChange, SinkChange, IsUntouched, GainsNothing, Wrote}
+use Rattle.ax_endpoints.specs.Changes.{none_counted, LibraryCounts, SourceChange, SinkChange, IsUntouched, Gains, GainsNothing, GainsPart, Wrote}
 use Rattle.ax_endpoints.specs.Files.{File}
 use Rattle.ax_endpoints.specs.Told.{Rose, with_end}
 use Rattle.ax_endpoints.specs.declared.sinks.SinkFailed.{SinkFailed}
@@ -55,7 +55,7 @@ use Rattle.ax_app.specs.Given.{LineGives, LineEnds, in_specs, in_expansion, file
 use Rattle.ax_app.specs.Headline.{Headline, answered, stopped_at_words, stopped_at_files, stopped_before_input, stopped_in_job, IsHindrance, of_library, of_memory}
 use Rattle.ax_app.specs.Jobs.{CommandJob, writes, each_block, builds, salvages, refuses, ReadsInput, TextEnds, written, cut, no_memory, JobRuns}
 use Rattle.ax_app.specs.Salvages.{outcome_of_salvage}
-use Rattle.ax_app.specs.Running.{Does, StopsAtFiles, StopsBeforeInput, Runs, at_words, no_words, at_files, before_input, in_job, Ended, Causes}
+use Rattle.ax_app.specs.Running.{Does, StopsAtFiles, StopsBeforeInput, Runs, at_words, no_words, at_files, before_input, in_job, Causes}
 
 -- ---- usage
 
@@ -278,10 +278,9 @@ done_reads words files c input i o r outcome job count octets left d reads done 
 
 -- ---- the report, with the lines of the outcome last
 
-pub ended : (P : SinkChange → Type 0) (held between held' : Option (List ℕ)) (faults counted faults' : ℕ) (result : Result Unit SinkFailed) (lines : List ℕ) → faults ≤ counted → counted ≤ faults' → P (record { held = held; held' = between; faults = faults; faults' = counted })
-    → Wrote (record { held = between; held' = held'; faults = counted; faults' = faults' }) result lines → Ended P (record { held = held; held' = held'; faults = faults; faults' = faults' }) lines
-ended P held between held' faults counted faults' (Ok u) lines a b before w = record { between = between; counted = counted; from_start = a; to_end = b; before = before; lines_after = inl (w.whole, w.quiet); once = w.once }
-ended P held between held' faults counted faults' (Err e) lines a b before w = record { between = between; counted = counted; from_start = a; to_end = b; before = before; lines_after = inr w.part; once = w.once }
+pub lines_after : (o : SinkChange) (result : Result Unit SinkFailed) (lines : List ℕ) → Wrote o result lines → (Gains o lines × (o.faults' ≡ o.faults)) ⊎ GainsPart o lines
+lines_after o (Ok u) lines w = inl (w.whole, w.quiet)
+lines_after o (Err e) lines w = inr w.part
 
 -- ---- the whole report
 

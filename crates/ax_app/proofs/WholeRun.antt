@@ -8,7 +8,7 @@ use Rattle.ax_endpoints.specs.declared.sinks.SinkFailed.{SinkFailed}
 use Rattle.ax_app.proofs.Causing.{causes}
 use Rattle.ax_app.proofs.Loads.{counted}
 use Rattle.ax_app.proofs.OwnOutcomes.{of_its_command, later_on}
-use Rattle.ax_app.proofs.Stages.{headline, usage_only, usage_there, causes_on, completes, reads_all, ended}
+use Rattle.ax_app.proofs.Stages.{headline, usage_only, usage_there, causes_on, completes, reads_all, lines_after}
 use Rattle.ax_app.proofs.TakenHeadline.{taken_headline}
 use Rattle.ax_app.specs.Gateway.{Obeys, IsRun}
 
@@ -17,10 +17,18 @@ pub is_run : (words : List (List ℕ)) (files : Option (List File)) (k : Library
     → Wrote (record { held = between; held' = held'; faults = middle; faults' = faults' }) result (lines_of outcome)
     → IsRun words (record { files = files; library = k; io = record { source = i; out = o; report = record { held = held; held' = held'; faults = faults; faults' = faults' } } }) outcome
 is_run words files k i o held between held' faults middle faults' outcome result obeys wrote = record {
-  headline = λ told input octets is left. ended _ _ _ _ _ _ _ _ _ obeys.later.report wrote.later (headline _ _ told _ input _ _ _ _ is octets left obeys.runs) wrote;
-  headline_of_taken = λ told is. ended _ _ _ _ _ _ _ _ _ obeys.later.report wrote.later (taken_headline _ _ told _ _ _ _ _ is obeys.runs) wrote;
-  runs = ended _ _ _ _ _ _ _ _ _ obeys.later.report wrote.later obeys.runs wrote;
-  counts = ended _ _ _ _ _ _ _ _ _ obeys.later.report wrote.later (counted _ _ _ _ _ _ _ obeys.runs) wrote;
+  split = record {
+    between = between;
+    counted = middle;
+    from_start = obeys.later.report;
+    to_end = wrote.later;
+    lines_after = lines_after (record { held = between; held' = held'; faults = middle; faults' = faults' }) result (lines_of outcome) wrote;
+    once = wrote.once;
+  };
+  headline = λ told input octets is left. headline _ _ told _ input _ _ _ _ is octets left obeys.runs;
+  headline_of_taken = λ told is. taken_headline _ _ told _ _ _ _ _ is obeys.runs;
+  runs = obeys.runs;
+  counts = counted _ _ _ _ _ _ _ obeys.runs;
   usage = usage_only _ _ _ _ _ _ _ obeys.runs;
   no_shape = usage_there _ _ _ _ _ _ _ obeys.runs;
   causes = causes_on _ _ _ _ _ _ _ _ _ obeys.later.report wrote.later (causes _ _ _ _ _ _ _ obeys.runs);

@@ -16,7 +16,7 @@ use Rattle.ax_app.specs.Counting.{LoadsAll, CountsOnly}
 use Rattle.ax_app.specs.Given.{Given, LineGives}
 use Rattle.ax_app.specs.Headline.{Headline, HeadlineOfTaken}
 use Rattle.ax_app.specs.Jobs.{CommandJob, ReadsInput}
-use Rattle.ax_app.specs.Running.{Runs, Does, Causes, Ended, NoCountFell, NoFaultFell, WantsFirst, AsksForMemory, IsOfItsCommand}
+use Rattle.ax_app.specs.Running.{Runs, Does, Causes, LinesSplit, before_lines, NoCountFell, NoFaultFell, WantsFirst, AsksForMemory, IsOfItsCommand}
 
 -- the octets of each word
 abbrev pub texts : {Z : Type 0} → List (String Z) → List (List ℕ)
@@ -58,14 +58,16 @@ ObeysLine line w outcome = (words : List (List ℕ)) → HasShape words line →
 -- ---- with the lines of its outcome, which come last on the report
 
 pub record IsRun (words : List (List ℕ)) (w : Outside) (outcome : Outcome) : Type 0 where
+  -- where they begin: one place, of which the next four fields speak
+  pub split : LinesSplit w.io.report (lines_of outcome)
   -- of a library and a source that tell their content
   pub headline : (files : List File) (input : List ℕ) → AreOctets input → w.files ≡ Some files → w.io.source.left ≡ Some input
-      → Ended (λ before. Headline words files w.library input w.io.source w.io.out before outcome) w.io.report (lines_of outcome)
+      → Headline words files w.library input w.io.source w.io.out (before_lines w.io.report (lines_of outcome) split) outcome
   -- of a library that does
   pub headline_of_taken : (files : List File) → w.files ≡ Some files
-      → Ended (λ before. HeadlineOfTaken words files w.library w.io.source w.io.out before outcome) w.io.report (lines_of outcome)
-  pub runs : Ended (λ before. Runs words w.files w.library w.io.source w.io.out before outcome) w.io.report (lines_of outcome)
-  pub counts : Ended (λ before. CountsOnly w.library w.io.source w.io.out before outcome) w.io.report (lines_of outcome)
+      → HeadlineOfTaken words files w.library w.io.source w.io.out (before_lines w.io.report (lines_of outcome) split) outcome
+  pub runs : Runs words w.files w.library w.io.source w.io.out (before_lines w.io.report (lines_of outcome) split) outcome
+  pub counts : CountsOnly w.library w.io.source w.io.out (before_lines w.io.report (lines_of outcome) split) outcome
   pub usage : outcome ≡ Usage → HasNoShape words
   pub no_shape : HasNoShape words → (outcome ≡ Usage) ⊎ (outcome ≡ OutOfMemory)
   pub causes : Causes w.io.source w.io.out w.io.report outcome

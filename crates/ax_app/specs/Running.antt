@@ -49,16 +49,19 @@ pub data Runs (words : List (List ℕ)) (files : Option (List File)) (c : Librar
 
 -- ---- the report, to which the lines of the outcome come last
 
--- what the report gained before, up to this count of its faults, and these lines after it, with no fault more, or a prefix of
--- them where the count rose from there, by one fault
-pub record Ended (Before : SinkChange → Type 0) (r : SinkChange) (lines : List ℕ) : Type 0 where
+-- where the lines of the outcome begin: what the report held before them, at this count of its faults. They were added after it, with
+-- no fault more, or a prefix of them where the count rose from there, by one fault
+pub record LinesSplit (r : SinkChange) (lines : List ℕ) : Type 0 where
   pub between : Option (List ℕ)
   pub counted : ℕ
   pub from_start : r.faults ≤ counted
   pub to_end : counted ≤ r.faults'
-  pub before : Before (first_step r between counted)
   pub lines_after : (Gains (second_step r between counted) lines × (r.faults' ≡ counted)) ⊎ GainsPart (second_step r between counted) lines
   pub once : r.faults' ≤ counted + 1
+
+-- the report up to there
+abbrev pub before_lines : (r : SinkChange) (lines : List ℕ) → LinesSplit r lines → SinkChange
+before_lines r lines split = first_step r split.between split.counted
 
 -- ---- causes
 

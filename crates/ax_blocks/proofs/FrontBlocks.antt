@@ -1,5 +1,5 @@
 -- What an input has at its front once blocks of it were taken: one block more, or where the run over it stops.
-use Rattle.std.proofs.Common.{◌≡◌, ℕ, ◌+◌, ◌<◌, ◌≤◌, List, [], ◌∷◌, ◌++◌, Option, Some, None, length, refl, sym, ◌∙◌, ap, subst, arith, append_assoc, length-append, inl, inr, Err}
+use Rattle.std.proofs.Common.{◌≡◌, ℕ, ◌+◌, ◌*◌, ◌<◌, ◌≤◌, List, [], ◌∷◌, ◌++◌, Option, Some, None, length, refl, sym, ◌∙◌, ap, subst, arith, append_assoc, append-nil, length-append, inl, inr, Err}
 use Rattle.ax_bits.specs.Bits.{AreOctets}
 use Rattle.ax_blocks.specs.Reader.{GivesBlock, FindsEnd, StopsUnfinished, OnEnd, OnReadFault, RanOut, octets_to_end}
 use Rattle.ax_blocks.specs.Taking.{IsUnfinished}
@@ -8,7 +8,7 @@ use Rattle.ax_blocks.specs.declared.next_error.NextError.TheVariants.{BadLen, En
 use Rattle.ax_format.specs.Blocks.{BlockTree}
 use Rattle.ax_format.proofs.InputSteps.{ends_by_framing, ends_by_body}
 use Rattle.ax_format.specs.Ends.{RawSpells, RawsSpell, RawFails, Ends, by_framing, by_body}
-use Rattle.ax_format.specs.Framing.{RawTree, AreRaws, FramingEnd, FramingEnds, whole, bad_len, ends_in_header, ends_in_block, input_too_long, IsJustNext, end}
+use Rattle.ax_format.specs.Framing.{RawTree, AreRaws, FramingEnd, FramingEnds, whole, bad_len, ends_in_header, ends_in_block, input_too_long, IsJustNext, end, len_of}
 use Rattle.ax_format.specs.declared.fault.BodyCause.{BodyCause}
 use Rattle.ax_format.specs.declared.record.RawBlock.{RawBlock}
 use Rattle.ax_endpoints.specs.Changes.{SinkChange, Gains}
@@ -17,7 +17,7 @@ use Rattle.ax_blocks.proofs.Results.{output_snoc, report_snoc, given_snoc}
 use Rattle.ax_endpoints.proofs.Gains.{both, gains_both, gains_on, gains_part}
 use Rattle.ax_blocks.proofs.Streams.{raws_snoc, spell_snoc, spell_count, stream_snoc, length_snoc, framed_count, raw_spells_block, octets_after}
 use Rattle.ax_blocks.specs.Commands.{BlockCommand, gives, lines_in, octets_in, report_of, output_of, IsGiven}
-use Rattle.ax_blocks.specs.Remembering.{RemembersAll}
+use Rattle.ax_blocks.specs.Remembering.{RemembersAll, RemembersUpTo}
 use Rattle.ax_blocks.specs.Ending.{cause_of, refused_at, framing_end, error_end, stop_end}
 use Rattle.ax_blocks.specs.Streams.{BeginsWith, ThenBlock, EndsWithInput, AtBlock, IsLeft, RefusesBlock, in_body, by_length, ToldRun, reading, writing, reporting, for_memory}
 use Rattle.ax_blocks.specs.BlockTaking.{GivesFor, IsTooLongFor, IsCutFor, IsCutAfterLines, GainNothing, StopsFor}
@@ -244,7 +244,33 @@ module _ (c : BlockCommand) (limit : ℕ) (Kept : List RawTree → Type 0) (inpu
   takes_no_more p q ReportFault are joins shows h = stops_reporting p q joins shows h
   takes_no_more p q OutOfMemory are joins shows h = stops_for_memory p q joins shows h
 
+  -- the block is the last one of the input: it is kept too
+  pub keeps_through : (Later : List RawTree → Type 0) → ((raws : List RawTree) → Kept raws → Later (raws ++ raw ∷ [])) → left ≡ Some g.octets → RemembersAll Later limit input
+  keeps_through Later keeps alone =
+      let rest : s.rest ≡ g.octets = (let e : ◌≡◌ {A = Option (List ℕ)} (Some s.rest) (Some g.octets) = sym s.left_is ∙ alone in cc) in
+      record {
+        raws = s.raws ++ raw ∷ [];
+        framed = record {
+          front = s.octets ++ g.octets;
+          rest = [];
+          split = s.begins.split ∙ ap (λ x. s.octets ++ x) rest ∙ sym (append-nil (s.octets ++ g.octets));
+          blocks = raws_snoc s.raws s.octets g.octets raw s.framed g.framed is_some;
+          within = fits;
+          ends = refl;
+        };
+        remembered = keeps s.raws s.kept;
+      }
+
 -- ---- no block more
+
+-- as an input of their own, octets of a block that isn't there whole end in its header or in it, or are none
+unfinished_ends : (limit before : ℕ) (rest : List ℕ) → IsUnfinished limit before rest → (e : FramingEnd) × FramingEnds limit before rest e
+unfinished_ends limit before [] u = (whole, refl)
+unfinished_ends limit before (a ∷ []) u = (ends_in_header 8, record { some = omega arith; cut = omega arith; within = u.within; missing = refl })
+unfinished_ends limit before (a ∷ b ∷ []) u = (ends_in_header 16, record { some = omega arith; cut = omega arith; within = u.within; missing = refl })
+unfinished_ends limit before (a ∷ b ∷ d ∷ more) u =
+    let header : 3 ≤ length (a ∷ b ∷ d ∷ more) = omega arith in
+    (ends_in_block (8 * length (a ∷ b ∷ d ∷ more)), record { header = header; len = u.len header; cut = u.more header; within = u.within; missing = refl })
 
 module _ (c : BlockCommand) (limit : ℕ) (Kept : List RawTree → Type 0) (input : List ℕ) (left left' : Option (List ℕ)) (o r : SinkChange) (given count taken taken' : ℕ)
     (s : SoFar c limit Kept input left o r given count) where
@@ -282,11 +308,29 @@ module _ (c : BlockCommand) (limit : ℕ) (Kept : List RawTree → Type 0) (inpu
       let none : t.after ≡ [] = subst IsAtEnd t.left f.ran_out in
       inl (record { blocks = s.blocks; answers = inl (ends_framed whole f); out = s.out; report = s.report; read = λ m e. t.left ∙ ap Some none; left = left_by_framing whole f })
 
-  pub keeps_all : given ≤ limit → FindsEnd limit given left left' taken taken' whole → RemembersAll Kept limit input
-  keeps_all fits f =
+  -- what is kept, where framing ends so
+  pub keeps_up_to : (e : FramingEnd) → FramingEnds limit given s.rest e → RemembersUpTo Kept limit input e
+  keeps_up_to e ends = record {
+    raws = s.raws;
+    framed = record {
+      front = s.octets;
+      rest = s.rest;
+      split = s.begins.split;
+      blocks = s.framed;
+      within = s.begins.within;
+      ends = (let P : ℕ → Type 0 = λ n. FramingEnds limit n s.rest e in subst P s.given_is ends);
+    };
+    remembered = s.kept;
+  }
+
+  pub keeps_at_end : (e : FramingEnd) → FindsEnd limit given left left' taken taken' e → RemembersUpTo Kept limit input e
+  keeps_at_end e f =
       let t : Split s.rest f.octets left' = left_splits s.rest f.octets left left' s.left_is f.took.gives in
-      let none : s.rest ≡ [] = t.split ∙ (f.just t.after (subst (RanOut whole) t.left f.ran_out)).is in
-      record { raws = s.raws; framed = record { front = s.octets; rest = s.rest; split = s.begins.split; blocks = s.framed; within = omega (arith, fits, s.given_is); ends = none }; remembered = s.kept }
+      let just : IsJustNext limit given s.rest (end e) = subst (λ x. IsJustNext limit given x (end e)) (sym t.split) (f.just t.after (subst (RanOut e) t.left f.ran_out)) in
+      keeps_up_to e just.is
+
+  pub keeps_unfinished : IsUnfinished limit given s.rest → (e : FramingEnd) × RemembersUpTo Kept limit input e
+  keeps_unfinished u = let (e, ends) = unfinished_ends limit given s.rest u in (e, keeps_up_to e ends)
 
   pub ends_early : (e : FramingEnd) → ((m : ℕ) → framing_end count e ≡ EndOf.Done m → ⊥) → FindsEnd limit given left left' taken taken' e → ToldRun c limit input left' o r (framing_end count e)
   ends_early e never f = inl (record { blocks = s.blocks; answers = inl (ends_framed e f); out = s.out; report = s.report; read = λ m is. absurd (never m is); left = left_by_framing e f })

@@ -19,12 +19,13 @@ use Rattle.ax_blocks.specs.Commands.{BlockCommand}
 use Rattle.ax_blocks.specs.Ending.{cause_of, error_end, stop_end}
 use Rattle.ax_blocks.specs.Streams.{RunsOver, StreamRuns, IsCaused, IsLicensed, CountsOnly, Reports, HasCause}
 use Rattle.ax_blocks.specs.BlockTaking.{IsCutFor, StopsFor, UnlessReportFault, UnlessWriteFault, Takes}
+use Rattle.ax_blocks.specs.declared.end.StreamEnd.{StreamEnd}
 use Rattle.ax_blocks.specs.declared.end.StreamEnd.TheVariants as EndOf
 use Rattle.ax_blocks.specs.declared.work.WorkStop.{WorkStop}
 use Rattle.ax_blocks.specs.declared.work.WorkStop.TheVariants.{Fault, TooLong, WriteFault, ReportFault, OutOfMemory}
-use Rattle.ax_blocks.proofs.FrontBlocks.{SoFar, nothing_so_far, no_memory, one_block_more, takes_no_more, reads_all, keeps_all, reader_stops}
+use Rattle.ax_blocks.proofs.FrontBlocks.{SoFar, nothing_so_far, no_memory, one_block_more, takes_no_more, reads_all, keeps_at_end, reader_stops}
 use Rattle.ax_blocks.proofs.TakenBlocks.{TakenSoFar, nothing, nothing_taken, done_over, refused_over, stopped_over, taken_more}
-use Rattle.ax_blocks.specs.Remembering.{RemembersAll}
+use Rattle.ax_blocks.specs.Remembering.{RemembersAll, RemembersUpTo, RemembersTaken}
 
 -- ---- the invariant of the block loop
 
@@ -150,10 +151,10 @@ module _ (c : BlockCommand) (limit : ℕ) (i : SourceChange) (o r : SinkChange) 
 
   -- what was kept, where the reader ends
   pub kept_told : FindsEnd reader.limit reader.given i.left' next i.taken' t' whole → (input : List ℕ) → AreOctets input → i.left ≡ Some input → RemembersAll Kept limit input
-  kept_told f input are l = keeps_all c limit Kept input i.left' next o r reader.given count i.taken' t' (run.told input are l) run.within (ends_at f)
+  kept_told f input are l = keeps_at_end c limit Kept input i.left' next o r reader.given count i.taken' t' (run.told input are l) whole (ends_at f)
 
   pub kept_of_taken : (Also : List ℕ → Type 0) → ((octets : List ℕ) → RemembersAll Kept limit octets → Also octets) → FindsEnd reader.limit reader.given i.left' next i.taken' t' whole → RunsOver c limit further o r (EndOf.Done count) Also
-  kept_of_taken Also also f = done_over c limit Kept i o r reader.given count run.taken next t' f' Also also run.within (ends_at f)
+  kept_of_taken Also also f = done_over c limit Kept i o r reader.given count run.taken next t' f' Also also (ends_at f)
 
   -- the reader ends
   pub run_done : f' ≡ i.faults' → FindsEnd reader.limit reader.given i.left' next i.taken' t' whole → StreamRuns c limit further o r (EndOf.Done count)
@@ -169,7 +170,7 @@ module _ (c : BlockCommand) (limit : ℕ) (i : SourceChange) (o r : SinkChange) 
   }
 
   -- the reader refuses
-  pub refused_of_taken : (Also : List ℕ → Type 0) → ((octets : List ℕ) → Also octets) → (e : NextError) → OnEnd {A = RawBlock} (Err e) (FindsEnd reader.limit reader.given i.left' next i.taken' t')
+  pub refused_of_taken : (Also : List ℕ → Type 0) → ((octets : List ℕ) (end : FramingEnd) → RemembersUpTo Kept limit octets end → Also octets) → (e : NextError) → OnEnd {A = RawBlock} (Err e) (FindsEnd reader.limit reader.given i.left' next i.taken' t')
       → OnReadFault {A = RawBlock} (Err e) (StopsUnfinished reader.limit reader.given i.left' next i.taken' t') → RunsOver c limit further o r (error_end count e) Also
   refused_of_taken Also also e f u = refused_over c limit Kept i o r reader.given count run.taken next t' f' Also also e
       (subst (λ n. OnEnd {A = RawBlock} (Err e) (FindsEnd n reader.given i.left' next i.taken' t')) run.limit_is f)
@@ -182,7 +183,7 @@ module _ (c : BlockCommand) (limit : ℕ) (i : SourceChange) (o r : SinkChange) 
     told = λ input are l. reader_stops c limit Kept input i.left' next o r reader.given count i.taken' t' (run.told input are l) e
         (subst (λ n. OnEnd {A = RawBlock} (Err e) (FindsEnd n reader.given i.left' next i.taken' t')) run.limit_is f)
         (subst (λ n. OnReadFault {A = RawBlock} (Err e) (StopsUnfinished n reader.given i.left' next i.taken' t')) run.limit_is u);
-    over_taken = refused_of_taken (λ octets. Unit {0}) (λ octets. tt) e f u;
+    over_taken = refused_of_taken (λ octets. Unit {0}) (λ octets end k. tt) e f u;
     caused = error_caused limit count i.taken' reader.given t' further o r e refl run.took (subst (λ n. OnTooLong {A = RawBlock} (Err e) (n + i.taken' < reader.given + t')) run.limit_is past) (fault_rose e rose);
     licensed = error_licensed c count e;
     counts = counts_error count i.faults' further o r e run.source_quiet once quiet run.out_quiet run.report_quiet;
@@ -199,11 +200,11 @@ module _ (c : BlockCommand) (limit : ℕ) (i : SourceChange) (o r : SinkChange) 
 
   module _ (raw : RawTree) (held shown : Option (List ℕ)) (fails flaws : ℕ) (still : f' ≡ i.faults') (g : GivesBlock reader.limit reader.given i.left' next i.taken' t' raw) where
     -- the work stops
-    pub stopped_of_taken : (Also : List ℕ → Type 0) → ((octets : List ℕ) → Also octets) → (stop : WorkStop) → Takes now count raw (step o held fails) (step r shown flaws) (Err stop)
+    pub stopped_of_taken : (Later : List RawTree → Type 0) → ((raws : List RawTree) → Kept raws → Later (raws ++ raw ∷ [])) → (Also : List ℕ → Type 0) → ((octets : List ℕ) → RemembersAll Later limit octets → Also octets) → (stop : WorkStop) → Takes now count raw (step o held fails) (step r shown flaws) (Err stop)
         → RunsOver c limit further (both o (step o held fails)) (both r (step r shown flaws)) (stop_end count stop) Also
-    stopped_of_taken Also also stop t =
+    stopped_of_taken Later keeps Also also stop t =
         let s : Takes c count raw (step o held fails) (step r shown flaws) (Err stop) = subst (λ n. Takes n count raw (step o held fails) (step r shown flaws) (Err stop)) run.same t in
-        stopped_over c limit Kept i o r reader.given count run.taken next t' f' raw (gives_block raw g) (step o held fails) (step r shown flaws) refl refl Also also stop s.means
+        stopped_over c limit Kept i o r reader.given count run.taken next t' f' raw (gives_block raw g) (step o held fails) (step r shown flaws) refl refl Later keeps Also also stop s.means
 
     pub run_stopped : (stop : WorkStop) → Takes now count raw (step o held fails) (step r shown flaws) (Err stop) → StreamRuns c limit further (both o (step o held fails)) (both r (step r shown flaws)) (stop_end count stop)
     run_stopped stop t =
@@ -214,7 +215,7 @@ module _ (c : BlockCommand) (limit : ℕ) (i : SourceChange) (o r : SinkChange) 
         let e : r.faults' ≤ flaws = s.report_later in
         record {
           told = λ input are l. takes_no_more c limit Kept input i.left' next o r reader.given count i.taken' t' raw (run.told input are l) (gives_block raw g) (step o held fails) (step r shown flaws) stop are refl refl s.means;
-          over_taken = stopped_of_taken (λ octets. Unit {0}) (λ octets. tt) stop t;
+          over_taken = stopped_of_taken (λ raws. Unit {0}) (λ raws k. tt) (λ octets. Unit {0}) (λ octets k. tt) stop t;
           caused = stop_caused limit count count c raw further o r (step o held fails) (step r shown flaws) stop run.out_later run.report_later s.means;
           licensed = stop_licensed c count raw (step o held fails) (step r shown flaws) stop s.means;
           counts = counts_stop count further o r (step o held fails) (step r shown flaws) stop (still ∙ run.source_quiet) run.out_quiet run.report_quiet s.out_once s.report_once s.out_quiet s.report_quiet;
@@ -275,23 +276,28 @@ reader_after old new result raw e a = (a.same_limit, (a.counts ∙ ap (λ r. old
 
 -- ---- what a work remembers
 
--- it remembered nothing before
-pub remembers_done : (Before : Type 0) (Kept : List RawTree → Type 0) (limit : ℕ) (input : List ℕ) → RemembersAll (λ raws. Before → Kept raws) limit input → Before → RemembersAll Kept limit input
-remembers_done Before Kept limit input h m = record { raws = h.raws; framed = h.framed; remembered = h.remembered m }
-
-pub error_not_done : (count m : ℕ) (e : NextError) → error_end count e ≡ EndOf.Done m → ⊥
+error_not_done : (count m : ℕ) (e : NextError) → error_end count e ≡ EndOf.Done m → ⊥
 error_not_done count m BadLen is = absurd (cc)
 error_not_done count m (EndsInHeader bit) is = absurd (cc)
 error_not_done count m (EndsInBlock bit) is = absurd (cc)
 error_not_done count m InputTooLong is = absurd (cc)
 error_not_done count m ReadFault is = absurd (cc)
 
-pub stop_not_done : (count m : ℕ) (stop : WorkStop) → stop_end count stop ≡ EndOf.Done m → ⊥
-stop_not_done count m (Fault f) is = absurd (cc)
-stop_not_done count m (TooLong n) is = absurd (cc)
-stop_not_done count m WriteFault is = absurd (cc)
-stop_not_done count m ReportFault is = absurd (cc)
-stop_not_done count m OutOfMemory is = absurd (cc)
+-- it remembered nothing before
+remembers_up_to : (Before : Type 0) (Kept : List RawTree → Type 0) (limit : ℕ) (input : List ℕ) (end : FramingEnd) → RemembersUpTo (λ raws. Before → Kept raws) limit input end → Before → RemembersUpTo Kept limit input end
+remembers_up_to Before Kept limit input end h m = record { raws = h.raws; framed = h.framed; remembered = h.remembered m }
+
+pub remembers_done : (Before : Type 0) (Kept : List RawTree → Type 0) (limit : ℕ) (input : List ℕ) → RemembersAll (λ raws. Before → Kept raws) limit input → Before → RemembersAll Kept limit input
+remembers_done Before Kept limit input h m = remembers_up_to Before Kept limit input whole h m
+
+-- of the octets that were taken: all of them at the end of the input, and through a block that stops the run
+pub remembers_taken : (Before : Type 0) (Kept : List RawTree → Type 0) (limit : ℕ) (octets : List ℕ) (e : StreamEnd) → RemembersAll (λ raws. Before → Kept raws) limit octets → Before → RemembersTaken Kept limit octets e
+remembers_taken Before Kept limit octets e h m = record { end = whole; blocks = remembers_up_to Before Kept limit octets whole h m; read = λ count is. refl }
+
+-- and where the reader refuses
+pub remembers_at_error : (Before : Type 0) (Kept : List RawTree → Type 0) (limit : ℕ) (octets : List ℕ) (count : ℕ) (e : NextError) (end : FramingEnd) → RemembersUpTo (λ raws. Before → Kept raws) limit octets end → Before
+    → RemembersTaken Kept limit octets (error_end count e)
+remembers_at_error Before Kept limit octets count e end h m = record { end = end; blocks = remembers_up_to Before Kept limit octets end h m; read = λ number is. absurd (error_not_done count number e is) }
 
 -- ---- no memory for the reader
 

@@ -15,8 +15,8 @@ use Rattle.ax_blocks.specs.Streams.{RunsOver}
 use Rattle.ax_blocks.specs.BlockTaking.{GivesFor, StopsFor}
 use Rattle.ax_blocks.specs.declared.end.StreamEnd.TheVariants as EndOf
 use Rattle.ax_blocks.specs.declared.work.WorkStop.{WorkStop}
-use Rattle.ax_blocks.specs.Remembering.{RemembersAll}
-use Rattle.ax_blocks.proofs.FrontBlocks.{SoFar, nothing_so_far, one_block_more, takes_no_more, reads_all, keeps_all, ends_early, stops_reading}
+use Rattle.ax_blocks.specs.Remembering.{RemembersAll, RemembersUpTo}
+use Rattle.ax_blocks.proofs.FrontBlocks.{SoFar, nothing_so_far, one_block_more, takes_no_more, keeps_through, reads_all, keeps_up_to, keeps_at_end, keeps_unfinished, ends_early, stops_reading}
 
 -- they are whole blocks, whose results were written, whether the source tells them or not
 pub record TakenSoFar (c : BlockCommand) (limit : ℕ) (Kept : List RawTree → Type 0) (i : SourceChange) (o r : SinkChange) (given count : ℕ) : Type 0 where
@@ -90,45 +90,49 @@ module _ (c : BlockCommand) (limit : ℕ) (Kept : List RawTree → Type 0) (i : 
   so_far : (octets : List ℕ) → SoFar c limit Kept (s.octets ++ octets) (Some octets) o r given count
   so_far octets = followed c limit Kept s.octets octets o r given count s.so_far
 
-  ended_over : (Also : List ℕ → Type 0) (e : FramingEnd) (f : FindsEnd limit given i.left' next i.taken' t' e) → ((m : ℕ) → framing_end count e ≡ EndOf.Done m → ⊥) → Also (s.octets ++ f.octets) → RunsOver c limit onward o r (framing_end count e) Also
-  ended_over Also e f never also = record {
+  ended_over : (Also : List ℕ → Type 0) → ((octets : List ℕ) (end : FramingEnd) → RemembersUpTo Kept limit octets end → Also octets)
+      → (e : FramingEnd) (f : FindsEnd limit given i.left' next i.taken' t' e) → ((m : ℕ) → framing_end count e ≡ EndOf.Done m → ⊥) → RunsOver c limit onward o r (framing_end count e) Also
+  ended_over Also also e f never = record {
     octets = s.octets ++ f.octets;
     took = all_taken f.octets f.took;
     run = ends_early c limit Kept (s.octets ++ f.octets) (Some f.octets) (Some []) o r given count i.taken' t' (so_far f.octets) e never (ends_alone limit given i.left' next i.taken' t' e f);
-    also = also;
+    also = also (s.octets ++ f.octets) e (keeps_at_end c limit Kept (s.octets ++ f.octets) (Some f.octets) (Some []) o r given count i.taken' t' (so_far f.octets) e (ends_alone limit given i.left' next i.taken' t' e f));
   }
 
   -- the reader ends
-  pub done_over : (Also : List ℕ → Type 0) → ((octets : List ℕ) → RemembersAll Kept limit octets → Also octets) → given ≤ limit → FindsEnd limit given i.left' next i.taken' t' whole → RunsOver c limit onward o r (EndOf.Done count) Also
-  done_over Also also fits f = record {
+  pub done_over : (Also : List ℕ → Type 0) → ((octets : List ℕ) → RemembersAll Kept limit octets → Also octets) → FindsEnd limit given i.left' next i.taken' t' whole → RunsOver c limit onward o r (EndOf.Done count) Also
+  done_over Also also f = record {
     octets = s.octets ++ f.octets;
     took = all_taken f.octets f.took;
     run = reads_all c limit Kept (s.octets ++ f.octets) (Some f.octets) (Some []) o r given count i.taken' t' (so_far f.octets) (ends_alone limit given i.left' next i.taken' t' whole f);
-    also = also (s.octets ++ f.octets) (keeps_all c limit Kept (s.octets ++ f.octets) (Some f.octets) (Some []) o r given count i.taken' t' (so_far f.octets) fits (ends_alone limit given i.left' next i.taken' t' whole f));
+    also = also (s.octets ++ f.octets) (keeps_at_end c limit Kept (s.octets ++ f.octets) (Some f.octets) (Some []) o r given count i.taken' t' (so_far f.octets) whole (ends_alone limit given i.left' next i.taken' t' whole f));
   }
 
-  pub refused_over : (Also : List ℕ → Type 0) → ((octets : List ℕ) → Also octets) → (e : NextError) → OnEnd {A = RawBlock} (Err e) (FindsEnd limit given i.left' next i.taken' t') → OnReadFault {A = RawBlock} (Err e) (StopsUnfinished limit given i.left' next i.taken' t')
+  pub refused_over : (Also : List ℕ → Type 0) → ((octets : List ℕ) (end : FramingEnd) → RemembersUpTo Kept limit octets end → Also octets) → (e : NextError) → OnEnd {A = RawBlock} (Err e) (FindsEnd limit given i.left' next i.taken' t') → OnReadFault {A = RawBlock} (Err e) (StopsUnfinished limit given i.left' next i.taken' t')
       → RunsOver c limit onward o r (error_end count e) Also
-  refused_over Also also BadLen f u = ended_over Also bad_len f (λ m is. absurd (cc)) (also (s.octets ++ f.octets))
-  refused_over Also also (EndsInHeader bit) f u = ended_over Also (ends_in_header bit) f (λ m is. absurd (cc)) (also (s.octets ++ f.octets))
-  refused_over Also also (EndsInBlock bit) f u = ended_over Also (ends_in_block bit) f (λ m is. absurd (cc)) (also (s.octets ++ f.octets))
-  refused_over Also also InputTooLong f u = ended_over Also input_too_long f (λ m is. absurd (cc)) (also (s.octets ++ f.octets))
+  unfolding so_far followed
+  refused_over Also also BadLen f u = ended_over Also also bad_len f (λ m is. absurd (cc))
+  refused_over Also also (EndsInHeader bit) f u = ended_over Also also (ends_in_header bit) f (λ m is. absurd (cc))
+  refused_over Also also (EndsInBlock bit) f u = ended_over Also also (ends_in_block bit) f (λ m is. absurd (cc))
+  refused_over Also also InputTooLong f u = ended_over Also also input_too_long f (λ m is. absurd (cc))
   refused_over Also also ReadFault f u = record {
     octets = s.octets ++ u.octets;
     took = all_taken u.octets u.took;
     run = stops_reading c limit Kept (s.octets ++ u.octets) (Some u.octets) (Some []) o r given count i.taken' t' (so_far u.octets) (stops_alone limit given i.left' next i.taken' t' u);
-    also = also (s.octets ++ u.octets);
+    also = (let (end, kept) = keeps_unfinished c limit Kept (s.octets ++ u.octets) (Some u.octets) (Some []) o r given count i.taken' t' (so_far u.octets) u.unfinished in also (s.octets ++ u.octets) end kept);
   }
 
   module _ (raw : RawTree) (g : GivesBlock limit given i.left' next i.taken' t' raw) (p q : SinkChange) (joins : p.held ≡ o.held') (shows : q.held ≡ r.held') where
     -- the work stops
-    pub stopped_over : (Also : List ℕ → Type 0) → ((octets : List ℕ) → Also octets) → (stop : WorkStop) → StopsFor c count raw p q stop → RunsOver c limit onward (both o p) (both r q) (stop_end count stop) Also
-    stopped_over Also also stop h =
+    pub stopped_over : (Later : List RawTree → Type 0) → ((raws : List RawTree) → Kept raws → Later (raws ++ raw ∷ [])) → (Also : List ℕ → Type 0) → ((octets : List ℕ) → RemembersAll Later limit octets → Also octets)
+        → (stop : WorkStop) → StopsFor c count raw p q stop → RunsOver c limit onward (both o p) (both r q) (stop_end count stop) Also
+    unfolding gives_alone
+    stopped_over Later keeps Also also stop h =
         let took : Took i.left next i.taken t' (s.octets ++ g.octets) = all_taken g.octets g.took in record {
           octets = s.octets ++ g.octets;
           took = took;
           run = takes_no_more c limit Kept (s.octets ++ g.octets) (Some g.octets) (Some []) o r given count i.taken' t' raw (so_far g.octets) (gives_alone limit given i.left' next i.taken' t' raw g) p q stop took.octets_are joins shows h;
-          also = also (s.octets ++ g.octets);
+          also = also (s.octets ++ g.octets) (keeps_through c limit Kept (s.octets ++ g.octets) (Some g.octets) (Some []) o r given count i.taken' t' raw (so_far g.octets) (gives_alone limit given i.left' next i.taken' t' raw g) Later keeps refl);
         }
 
     -- the block is taken

@@ -166,7 +166,7 @@ fn push_spec(rt: &impl Abort, text: &mut String, spec: &Spec) {
     push(rt, text, "}\n");
 }
 
-/// The specification on one line, as the one-line files of crate ax_samples are.
+/// The specification on one line, as the one-line files of crate ax_vectors are.
 pub(crate) fn shown_spec(rt: &impl Abort, alloc: Global, spec: &Spec) -> String {
     let mut text = String::new(alloc);
     push_spec(rt, &mut text, spec);

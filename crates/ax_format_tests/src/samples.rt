@@ -1,4 +1,4 @@
-//! What becomes of each file of ax_samples.
+//! What becomes of files of ax_vectors.
 
 use crate::texts::read;
 use ax_check::{CheckError, accept};

@@ -51,3 +51,27 @@ fn files_are_loaded_by_name(rt: HostRuntime) {
         answers(&rt, rt.alloc(), &mut library, row);
     }
 }
+
+// The octets of a file that is read in several parts: each is another than the ones 4,096 before it and after it.
+fn long_file(rt: &impl Abort, alloc: Global) -> Vec<u8> {
+    let mut octets = Vec::new(alloc);
+    for number in 0..5_000u32 {
+        octets.push((number % 251) as u8).expect(rt, "memory");
+    }
+    octets
+}
+
+// A file that is longer than what is read at once is loaded whole.
+#[test]
+fn a_long_file_is_loaded_whole(rt: HostRuntime) {
+    let octets = long_file(&rt, rt.alloc());
+    fs::write(&rt, "long", &octets).expect(&rt, "a file");
+    let mut library = FolderLibrary::new(&rt);
+    loads(
+        &rt,
+        &library.load(rt.alloc(), "long", 5_000),
+        Ok(&octets),
+        "long",
+    );
+    tells(&rt, library.taken(), 5_000, "octets taken");
+}

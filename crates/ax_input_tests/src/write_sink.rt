@@ -1,9 +1,9 @@
-//! A sink over a real file.
+//! A sink over a real file, and over a writer that fails.
 
 use crate::checks::{counts, holds, tells};
 use ax_outside::{Sink, WriteSink};
 use std::fs;
-use std::io::Write;
+use std::io::{self, ErrorKind, Write};
 use std::process::Abort;
 
 // Each piece, and how many octets of it are taken.
@@ -34,4 +34,34 @@ fn a_file_to_be_read_takes_nothing(rt: HostRuntime) {
     let mut unwritable = WriteSink::new(opened);
     counts(&rt, unwritable.write(b"e").ok(), None, "e");
     tells(&rt, unwritable.faults(), 1, "faults");
+}
+
+/// A writer whose first call is interrupted, and which takes one octet at each later one.
+#[derive(Drop)]
+struct InterruptedFirst {
+    was_called: bool,
+}
+
+impl Write for InterruptedFirst {
+    fn write(&mut self, piece: &[u8]) -> io::Result<usize> {
+        if !self.was_called {
+            self.was_called = true;
+            return Err(io::Error::from(ErrorKind::Interrupted));
+        }
+        Ok(piece.len().min(1))
+    }
+
+    fn flush(&mut self) -> io::Result<()> {
+        Ok(())
+    }
+}
+
+// A write that fails, interrupted ones too, isn't tried again: it is counted. One that takes a part of a piece is none that failed.
+#[test]
+fn a_failed_write_is_not_tried_again(rt: HostRuntime) {
+    let mut sink = WriteSink::new(InterruptedFirst { was_called: false });
+    counts(&rt, sink.write(b"abc").ok(), None, "the first write");
+    tells(&rt, sink.faults(), 1, "faults");
+    counts(&rt, sink.write(b"abc").ok(), Some(1), "the second write");
+    tells(&rt, sink.faults(), 1, "faults");
 }

@@ -1,6 +1,6 @@
 use Rattle.std.proofs.Common.{◌≡◌, ◌∙◌, ap, Ok, Some, None, arith}
 use Rattle.ax_blocks.specs.Reader.{raw_tree, GivesBlock, FindsEnd}
-use Rattle.ax_blocks.proofs.Runs.{running_begins, run_done, run_refused, run_stopped, run_on, kept_told, kept_of_taken, refused_of_taken, stopped_of_taken, remembers_done, error_not_done, stop_not_done, unfailed, gives_raw, gives_end, reader_after}
+use Rattle.ax_blocks.proofs.Runs.{running_begins, run_done, run_refused, run_stopped, run_on, kept_told, kept_of_taken, refused_of_taken, stopped_of_taken, remembers_done, remembers_taken, remembers_at_error, unfailed, gives_raw, gives_end, reader_after}
 use Rattle.ax_blocks.proofs.driving.drive_blocks.Goals as goal
 
 pub overflow_add-blocks : goal.overflow_add-blocks
@@ -25,7 +25,7 @@ pub returns-in-Ok-None-clause-remembers_taken : goal.returns-in-Ok-None-clause-r
 returns-in-Ok-None-clause-remembers_taken g c =
     let e : c.next.result ≡ Ok None = c.in-Ok-None.is ∙ ap Ok c.in-Ok-None.field-0-is in
     let f = gives_end _ (FindsEnd c.stream.reader.limit c.stream.reader.given (g.S.Source.left c.stream.source) (g.S.Source.left c.next.new.source) (g.S.Source.taken c.stream.source) (g.S.Source.taken c.next.new.source)) e (c.next.ensures.end c.stream.invariant.open_) in
-    λ m. kept_of_taken _ _ _ _ _ _ _ _ _ _ c.stream.invariant _ _ _ c.next.ensures.never_falls _ (λ octets k blocks done. remembers_done _ _ _ _ k m) f
+    λ m. kept_of_taken _ _ _ _ _ _ _ _ _ _ c.stream.invariant _ _ _ c.next.ensures.never_falls _ (λ octets k. remembers_taken _ _ _ _ _ k m) f
 
 pub returns-in-Err-take-clause-runs : goal.returns-in-Err-take-clause-runs
 returns-in-Err-take-clause-runs g c =
@@ -37,7 +37,7 @@ pub returns-in-Err-take-clause-remembers_taken : goal.returns-in-Err-take-clause
 returns-in-Err-take-clause-remembers_taken g c =
     let e : c.next.result ≡ Ok (Some c.in-Ok-Some.raw) = c.in-Ok-Some.is ∙ ap Ok c.in-Ok-Some.field-0-is in
     let b = gives_raw _ _ (λ raw. GivesBlock c.stream.reader.limit c.stream.reader.given (g.S.Source.left c.stream.source) (g.S.Source.left c.next.new.source) (g.S.Source.taken c.stream.source) (g.S.Source.taken c.next.new.source) (raw_tree raw)) e (c.next.ensures.block c.stream.invariant.open_) in
-    rw c.work_end.ensures (λ m. stopped_of_taken _ _ _ _ _ _ _ _ _ _ c.stream.invariant _ _ _ c.next.ensures.never_falls _ _ _ _ _ (unfailed _ _ _ e c.next.ensures.quiet) b _ (λ octets blocks done. absurd (stop_not_done _ blocks _ done)) _ c.in-Err-take.ensures.takes)
+    rw c.work_end.ensures (λ m. stopped_of_taken _ _ _ _ _ _ _ _ _ _ c.stream.invariant _ _ _ c.next.ensures.never_falls _ _ _ _ _ (unfailed _ _ _ e c.next.ensures.quiet) b _ (λ raws k n. c.take.ensures.remembers _ raws (k n)) _ (λ octets k. remembers_taken _ _ _ _ _ k m) _ c.in-Err-take.ensures.takes)
 
 pub stream-preserved : goal.stream-preserved
 stream-preserved g c =
@@ -54,5 +54,5 @@ returns-in-Err-clause-runs g c =
 
 pub returns-in-Err-clause-remembers_taken : goal.returns-in-Err-clause-remembers_taken
 returns-in-Err-clause-remembers_taken g c =
-    rw c.reader_end.ensures (λ m. refused_of_taken _ _ _ _ _ _ _ _ _ _ c.stream.invariant _ _ _ c.next.ensures.never_falls _ (λ octets blocks done. absurd (error_not_done _ blocks _ done)) c.in-Err.error
+    rw c.reader_end.ensures (λ m. refused_of_taken _ _ _ _ _ _ _ _ _ _ c.stream.invariant _ _ _ c.next.ensures.never_falls _ (λ octets end k. remembers_at_error _ _ _ _ _ _ _ k m) c.in-Err.error
     (c.in-Err.ensures.end c.stream.invariant.open_) (c.in-Err.ensures.fault c.stream.invariant.open_))

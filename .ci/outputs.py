@@ -20,7 +20,7 @@ PROGRAM = os.environ.get("ASTERIX", str(TOP / "crates/asterix/out/asterix"))
 # Seconds for a run, and for what is due of a live pipe.
 RUNNING = 60
 WAITING = 20
-# The octets of stack that the program is to do with: an eighth of what is usual.
+# The octets of stack that the program is to do with: an eighth of what is usual. A block that is split needs the most, less than half of it.
 STACK = 1 << 20
 FAULT = "fault write\n"
 
@@ -289,6 +289,12 @@ def nested(deep: int, opening: str, closing: str = "}") -> str:
     return f'category 048 edition "deep" items {{ item 010 "" {kind} }} uap {{ 010 }}'
 
 
+def nested_expansion(deep: int) -> str:
+    """An expansion file with an element in so many counted kinds."""
+    kind = "counted { " * deep + "element 8 raw" + " }" * deep
+    return f'expansion 048 edition "deep" fx {{ A {kind} }}'
+
+
 def many(letter: str, kind: str) -> str:
     """126 items or slots of one kind."""
     return " ".join(f"{letter}{number:03} {kind}" for number in range(126))
@@ -303,6 +309,7 @@ def rare_files(room: str) -> None:
         "counted": nested(15, "counted {"),
         "compound": nested(15, "compound { A"),
         "group": nested(15, "group { A"),
+        "expansion": nested_expansion(15),
         **{name: f'category 048 edition "{name}" items {{ {items} }} uap {{ {slots} }}' for name, items in lines.items()},
         **FILES,
     }
@@ -321,6 +328,10 @@ def rare_cases() -> typing.Iterator[Case]:
     split = b"\xc9\xff\xfe" + b"\x80\x01" * 32765 + b"\x00"
     yield Case(["migrate", "G1", "G2"], [split], 0, [])
     yield Case(["convert", "G1", "G2"], [split], 0, [])
+    deep = b"\x80" + b"\1" * 15 + b"\7"
+    content = b"\1\1\1\2" + bytes([len(deep) + 1]) + deep
+    yield Case(["expand", "048-P1", "expansion"], [b"\x30" + (len(content) + 3).to_bytes(2, "big") + content], 0, [])
+    yield Case(["filter", "not { " * 16 + "present 048/010" + " }" * 16, "048-P1"], [SOUND], 0, [])
     for name, record in (("counted", b"\x80" + b"\1" * 15 + b"\7"), ("compound", b"\x80" * 16 + b"\7"), ("group", b"\x80\7")):
         block = b"\x30" + (len(record) + 3).to_bytes(2, "big") + record
         for command in ("check", "canon", "show", "text", "salvage"):

@@ -3,6 +3,7 @@ mod MemberPresence
 mod OpaqueTokens
 mod Widths
 pub mod AbsentItems
+pub mod BlockVerdicts
 pub mod CanonWritten
 pub mod Converting
 pub mod ExpansionExamples

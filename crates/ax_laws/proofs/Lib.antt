@@ -10,10 +10,12 @@ pub mod ExpansionExamples
 pub mod FilteredBlocks
 pub mod GrammarSteps
 pub mod JudgedContents
+pub mod KeyCounts
 pub mod KeyFates
 pub mod LinedThere
 pub mod OneAnswer
 pub mod PathPlaces
+pub mod PathValues
 pub mod PlacedNames
 pub mod WorkedLines
 pub mod WorkedScales

@@ -13,10 +13,13 @@ pub mod JudgedContents
 pub mod KeyCounts
 pub mod KeyFates
 pub mod LinedThere
+pub mod NumbersRead
 pub mod OneAnswer
 pub mod PathPlaces
 pub mod PathValues
 pub mod PlacedNames
+pub mod Readers
+pub mod WordsRead
 pub mod WorkedLines
 pub mod WorkedScales
 pub mod WorkedValues

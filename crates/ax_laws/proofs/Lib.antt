@@ -7,6 +7,8 @@ pub mod BlockVerdicts
 pub mod CanonWritten
 pub mod Converting
 pub mod ExpansionExamples
+pub mod ExpansionsRead
+pub mod FilesThere
 pub mod FilteredBlocks
 pub mod GrammarSteps
 pub mod JudgedContents
@@ -19,6 +21,7 @@ pub mod PathPlaces
 pub mod PathValues
 pub mod PlacedNames
 pub mod Readers
+pub mod TokensRead
 pub mod WordsRead
 pub mod WorkedLines
 pub mod WorkedScales

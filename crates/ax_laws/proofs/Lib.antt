@@ -8,8 +8,10 @@ pub mod CanonWritten
 pub mod Converting
 pub mod ExpansionExamples
 pub mod ExpansionsRead
+pub mod ExpressionsRead
 pub mod FilesThere
 pub mod FilteredBlocks
+pub mod FiltersRead
 pub mod GrammarSteps
 pub mod JudgedContents
 pub mod KeyCounts
@@ -19,6 +21,7 @@ pub mod NumbersRead
 pub mod OneAnswer
 pub mod PathPlaces
 pub mod PathValues
+pub mod PathsRead
 pub mod PlacedNames
 pub mod Readers
 pub mod TokensRead

@@ -4,6 +4,8 @@ mod OpaqueTokens
 mod Widths
 pub mod AbsentItems
 pub mod BlockVerdicts
+pub mod BlocksRead
+pub mod BuiltThere
 pub mod CanonWritten
 pub mod Converting
 pub mod ExpansionExamples
@@ -12,10 +14,13 @@ pub mod ExpressionsRead
 pub mod FilesThere
 pub mod FilteredBlocks
 pub mod FiltersRead
+pub mod FixedRead
 pub mod GrammarSteps
+pub mod HexRead
 pub mod JudgedContents
 pub mod KeyCounts
 pub mod KeyFates
+pub mod KindsRead
 pub mod LinedThere
 pub mod NumbersRead
 pub mod OneAnswer

@@ -6,6 +6,7 @@ pub mod AbsentItems
 pub mod BlockVerdicts
 pub mod BlocksRead
 pub mod BuiltThere
+pub mod CanonSums
 pub mod CanonWritten
 pub mod Converting
 pub mod ExpansionExamples
@@ -21,6 +22,7 @@ pub mod JudgedContents
 pub mod KeyCounts
 pub mod KeyFates
 pub mod KindsRead
+pub mod LineAnswersThere
 pub mod LinedThere
 pub mod NumbersRead
 pub mod OneAnswer
@@ -29,7 +31,9 @@ pub mod PathValues
 pub mod PathsRead
 pub mod PlacedNames
 pub mod Readers
+pub mod StreamThere
 pub mod TokensRead
+pub mod TrialThere
 pub mod WordsRead
 pub mod WorkedLines
 pub mod WorkedScales

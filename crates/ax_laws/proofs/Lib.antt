@@ -31,6 +31,7 @@ pub mod PathValues
 pub mod PathsRead
 pub mod PlacedNames
 pub mod Readers
+pub mod SomeAnswer
 pub mod StreamThere
 pub mod TokensRead
 pub mod TrialThere

@@ -1,15 +1,17 @@
 //! The laws of block texts that are read. Each function stands for what its contract says.
-ghost use Rattle.std.specs.Prelude.{◌≡◌, ◌⊎◌, List, Some};
+ghost use Rattle.std.specs.Prelude.{◌≡◌, ℕ, ◌⊎◌, List, Some};
 ghost use Rattle.std.specs.List.{AllByRecursion};
 ghost use Rattle.ax_format.specs.Blocks.{BlockTree};
 ghost use Rattle.ax_format.specs.CanonicalOctets.{category_of};
 ghost use Rattle.ax_format.specs.Flaws.{NoFlaw};
 ghost use Rattle.ax_format.specs.Specification.{SpecTree, spec_of};
+ghost use Rattle.ax_tokens.specs.FirstBad.{FirstBad};
 ghost use Rattle.ax_tokens.specs.PlainToken.{PlainToken};
+ghost use Rattle.ax_tokens.specs.Stopping.{texts_of};
 ghost use Rattle.ax_text_form.specs.BlockText.{BlockText};
 ghost use Rattle.ax_text_form.specs.Names.{IsNamed};
 ghost use Rattle.ax_text_form.specs.Tokens.{BlockTokens};
-ghost use Rattle.ax_block_reader.specs.BlockTexts.{block_texts, Spells, IsTextOf, IsFault};
+ghost use Rattle.ax_block_reader.specs.BlockTexts.{block_texts, Spells, IsBlockText, IsTextOf, IsFault};
 ghost use Rattle.ax_text_form.specs.CatalogueBlocks.{IsBlockOf};
 ghost use Rattle.ax_block_reader.specs.declared.error.TextError.{TextError};
 ghost use Rattle.ax_block_reader.specs.declared.error.TextError.TheVariants as Fault;
@@ -36,4 +38,12 @@ pub fn one_answer()
     ensures none { (catalogue : List SpecTree) (tokens : List PlainToken) (block : BlockTree) (error : TextError)
         → AllByRecursion (λ spec. NoFlaw spec × IsNamed spec) catalogue → IsTextOf catalogue tokens block
         → IsFault catalogue tokens error → error ≡ Fault.OutOfMemory }
+{}
+
+/// Under specifications without flaw whose names are names, any tokens are the text of a block, or one of them is the first bad
+/// one.
+pub fn text_or_bad()
+    ensures { (catalogue : List SpecTree) → AllByRecursion (λ spec. NoFlaw spec × IsNamed spec) catalogue
+        → (tokens : List PlainToken) → ((block : BlockTree) × Spells catalogue tokens block)
+        ⊎ ((token : ℕ) × FirstBad (IsBlockText catalogue) (texts_of tokens) token) }
 {}

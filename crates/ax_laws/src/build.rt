@@ -3,8 +3,9 @@ ghost use Rattle.std.specs.Prelude.{◌≡◌, ℕ, ◌≤◌, List, Some};
 ghost use Rattle.std.specs.List.{AllByRecursion};
 ghost use Rattle.ax_block_reader.specs.BlockTexts.{canonical_length};
 ghost use Rattle.ax_text_form.specs.CatalogueBlocks.{IsBlockOf};
-ghost use Rattle.ax_build_work.specs.BuildCommand.{build_command, deepest};
-ghost use Rattle.ax_lines.specs.Commands.{gives, HasOneAnswer};
+ghost use Rattle.ax_build_work.specs.BuildCommand.{AnswersLine, build_command, deepest};
+ghost use Rattle.ax_lines.specs.Commands.{gives, HasOneAnswer, LineAnswer};
+ghost use Rattle.ax_lines.specs.declared.text_fault.TextFault.{TextFault};
 ghost use Rattle.ax_format.specs.Blocks.{BlockTree};
 ghost use Rattle.ax_format.specs.CanonicalOctets.{canon_block, category_of};
 ghost use Rattle.ax_format.specs.Flaws.{NoFlaw};
@@ -18,6 +19,12 @@ ghost use Rattle.ax_tokens.specs.Lexing.{AreTokensOf};
 pub fn one_answer()
     ensures { (catalogue : List SpecTree) → AllByRecursion (λ spec. NoFlaw spec × IsNamed spec) catalogue
         → HasOneAnswer (build_command catalogue) }
+{}
+
+/// Under specifications without flaw whose names are names, each line has an answer.
+pub fn some_answer()
+    ensures { (catalogue : List SpecTree) → AllByRecursion (λ spec. NoFlaw spec × IsNamed spec) catalogue
+        → (line : List ℕ) → (answer : LineAnswer TextFault) × AnswersLine catalogue line answer }
 {}
 
 /// A line whose tokens are those of a printed block, of a category with a specification, is answered with the block's

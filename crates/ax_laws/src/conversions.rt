@@ -1,5 +1,5 @@
 //! The laws of converted records and blocks, and worked examples. Each function stands for what its contract says.
-ghost use Rattle.std.specs.Prelude.{◌≡◌, [], ◌∷◌, false, true, None, Some, codes};
+ghost use Rattle.std.specs.Prelude.{◌≡◌, ℕ, List, [], ◌∷◌, ◌++◌, false, true, length, map, None, Some, codes};
 ghost use Rattle.ax_format.specs.Blocks.{BlockTree, Fits, read_block};
 ghost use Rattle.ax_format.specs.Bodies.{RecordShape};
 ghost use Rattle.ax_relation.specs.Moved.{moved_record};
@@ -8,14 +8,15 @@ ghost use Rattle.ax_format.specs.Migrated.{Lost};
 ghost use Rattle.ax_format.specs.Named.{Key, Named, NamedEntry};
 ghost use Rattle.ax_format.specs.Specification.{SpecTree};
 ghost use Rattle.ax_format.specs.Tree.{EntriesTree, KindTree, ValueTree, no_entries};
-ghost use Rattle.ax_rescale.specs.Conversion.{BlockConversion, Conversion, convertible, is_missed, Missed};
+ghost use Rattle.ax_rescale.specs.Conversion.{BlockConversion, Conversion, convertible, Missed};
 ghost use Rattle.ax_laws.specs.ConversionExamples.{counted_in, of_number};
 ghost use Rattle.ax_rescale.specs.Converted.{Converted};
-ghost use Rattle.ax_rescale.specs.ConvertedRecord.{converted_record};
+ghost use Rattle.ax_rescale.specs.ConvertedRecord.{converted_block, converted_record};
 ghost use Rattle.ax_rescale.specs.ConvertedValue.{converted_value};
 ghost use Rattle.ax_rescale.specs.Converts.{converting_slots, stands_in};
-ghost use Rattle.ax_laws.specs.KeyFates.{Fate, HasFate};
-ghost use Rattle.ax_rescale.specs.Misses.{block_misses};
+ghost use Rattle.ax_laws.specs.KeyFates.{Fate, HasFate, StandTogether};
+ghost use Rattle.ax_relation.specs.Fates.{times};
+ghost use Rattle.ax_rescale.specs.Misses.{block_misses, miss};
 ghost use Rattle.ax_rescale.specs.Scales.{Scaled};
 
 /// The converted value, as a function of two kinds and a value, is the one that the relation has; there is none where it has none.
@@ -37,26 +38,35 @@ pub fn converts_to_one_record()
         → Conversion old new entries other → made ≡ other }
 {}
 
-/// Each block has exactly one conversion.
+/// Each block has exactly one conversion: its converted block.
 #[tactic(auto, using(crate::proofs::KeyFates::some_conversion, crate::proofs::KeyFates::one_conversion))]
 pub fn converts_to_one_block()
     ensures some { (old new : SpecTree) (block : BlockTree) → Fits old block
-        → (made : BlockTree) × BlockConversion old new block made }
+        → BlockConversion old new block (converted_block old new block) }
     ensures one { (old new : SpecTree) (block made other : BlockTree) → NoFlaw new → Fits old block
         → BlockConversion old new block made → BlockConversion old new block other → made ≡ other }
 {}
 
-/// Each key that is present is kept, converted, unconverted or lost, and only one of these. A key that isn't present has no entry in
-/// the converted record, and isn't missed.
+/// Between editions without flaw each key that is present is kept, converted, unconverted or lost, and only one of these, as
+/// `KeyFates` says; it is missed once where it is unconverted or lost, and else never. A key that isn't present has no entry in the
+/// converted record, and isn't missed.
 #[tactic(auto, using(crate::proofs::KeyFates::key_fates))]
 pub fn each_key_has_one_fate()
-    ensures some { (old new : SpecTree) (entries made : EntriesTree) (key : Key) (entry : NamedEntry)
+    ensures some { (old new : SpecTree) (entries made : EntriesTree) (key : Key) (entry : NamedEntry) → NoFlaw old → NoFlaw new
         → Conversion old new entries made → Named old entries key ≡ Some entry
         → (fate : Fate) × HasFate old new entries made key entry fate }
     ensures one { (old new : SpecTree) (entries made : EntriesTree) (key : Key) (entry : NamedEntry) (fate other : Fate)
         → HasFate old new entries made key entry fate → HasFate old new entries made key entry other → fate ≡ other }
     ensures absent { (old new : SpecTree) (entries made : EntriesTree) (key : Key) → Conversion old new entries made
-        → Named old entries key ≡ None → (Named new made key ≡ None) × (is_missed old new entries key ≡ false) }
+        → Named old entries key ≡ None → (Named new made key ≡ None) × (times key (Missed old new entries) ≡ 0) }
+{}
+
+/// The misses of a record in a block are those of its missed keys, in order and with its number. They stand together, after those
+/// of the records before it and before those of the records after it.
+pub fn misses_stand_together()
+    ensures { (old new : SpecTree) (category : ℕ) (before : List EntriesTree) (entries : EntriesTree) (after : List EntriesTree)
+        → StandTogether (length before) (map (miss old new (length before)) (Missed old new entries))
+        (block_misses old new (read_block category (before ++ entries ∷ after))) }
 {}
 
 /// Numbers under another scale: twice as many pieces of half the size; of two numbers under a greater one the first alone, since the

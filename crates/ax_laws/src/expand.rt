@@ -1,5 +1,5 @@
 //! The laws of expansion files and of contents. Each function stands for what its contract says.
-ghost use Rattle.std.specs.Prelude.{◌≡◌, ℕ, ◌<◌, ◌≤◌, ◌↔◌, List, [], ◌++◌, length};
+ghost use Rattle.std.specs.Prelude.{◌≡◌, ℕ, ◌<◌, ◌≤◌, ◌⊎◌, ◌↔◌, List, [], ◌++◌, length};
 ghost use Rattle.ax_bits.specs.Bits.{bits, AreBits};
 ghost use Rattle.ax_format.specs.Shape.{Shape};
 ghost use Rattle.ax_format.specs.Sound.{Sound};
@@ -12,15 +12,22 @@ ghost use Rattle.ax_expand.specs.Answers.{IsJudgedOnce};
 ghost use Rattle.ax_expand.specs.Content.{SpellsContent, CanonContent, StopsIn, FailsContent, content_cause};
 ghost use Rattle.ax_expand.specs.Expansion.{ExpansionTree, NoExpansionFlaw};
 ghost use Rattle.ax_expand.specs.Fields.{HasMarks};
-ghost use Rattle.ax_expand.specs.Files.{ExpansionInRange, expansion_texts};
+ghost use Rattle.ax_expand.specs.Files.{ExpansionInRange, expansion_texts, NamesBadExpansionToken, SpellsExpansion};
 ghost use Rattle.ax_expand.specs.Reading.{content_read};
 ghost use Rattle.ax_expand.specs.declared.fault.ContentCause.TheVariants.{TrailingOctets};
 ghost use Rattle.ax_expand.specs.declared.form.Form.{Form};
 ghost use Rattle.ax_expand.specs.declared.form.Form.TheVariants.{Fx};
+ghost use Rattle.ax_tokens.specs.PlainToken.{PlainToken};
 
 /// A spelling determines its expansion.
 pub fn expansion_spelled_once()
     ensures { (x y : ExpansionTree) → ExpansionInRange x → ExpansionInRange y → expansion_texts x ≡ expansion_texts y → x ≡ y }
+{}
+
+/// Any tokens spell an expansion, or one of them is the first bad one.
+pub fn expansion_spelled_or_bad()
+    ensures { (tokens : List PlainToken) → ((x : ExpansionTree) × SpellsExpansion tokens x)
+        ⊎ ((token : ℕ) × NamesBadExpansionToken tokens token) }
 {}
 
 /// No spelling of a content begins another, and a spelling determines its value.

@@ -1,6 +1,7 @@
 //! The laws of filters. Each function stands for what its contract says.
 ghost use Rattle.std.specs.Prelude.{◌≡◌, ℕ, ◌⊎◌, List};
 ghost use Rattle.ax_format.specs.Specification.{SpecTree};
+ghost use Rattle.ax_tokens.specs.FirstBad.{FirstBad};
 ghost use Rattle.ax_tokens.specs.Stopping.{texts_of};
 ghost use Rattle.ax_tokens.specs.PlainToken.{PlainToken};
 ghost use Rattle.ax_format.specs.Tree.{EntriesTree, no_entries};
@@ -9,6 +10,7 @@ ghost use Rattle.ax_expressions.specs.Answers.{Spells};
 ghost use Rattle.ax_expressions.specs.Faults.{IsFault};
 ghost use Rattle.ax_expressions.specs.Meaning.{holds};
 ghost use Rattle.ax_expressions.specs.FilterTokens.{IsFilterOf};
+ghost use Rattle.ax_expressions.specs.Spelling.{IsExpr};
 ghost use Rattle.ax_expressions.specs.Texts.{IsFilterText, IsRefused};
 ghost use Rattle.ax_expressions.specs.Tree.{ExprTree};
 ghost use Rattle.ax_expressions.specs.declared.error.FilterError.{FilterError};
@@ -18,6 +20,11 @@ ghost use Rattle.ax_expressions.specs.declared.stop.FilterFault.{FilterFault};
 /// Tokens spell one expression at most.
 pub fn expression_once()
     ensures { (tokens : List PlainToken) (e other : ExprTree) → Spells tokens e → Spells tokens other → e ≡ other }
+{}
+
+/// Any tokens spell an expression, or one of them is the first bad one.
+pub fn expression_or_bad()
+    ensures { (tokens : List PlainToken) → ((e : ExprTree) × Spells tokens e) ⊎ ((token : ℕ) × FirstBad IsExpr (texts_of tokens) token) }
 {}
 
 /// Tokens are a filter over a catalogue or have one fault, if memory doesn't run out.
@@ -37,6 +44,12 @@ pub fn text_once()
         → IsRefused catalogue text b → a ≡ b }
     ensures never_both { (catalogue : List SpecTree) (text : List ℕ) (e : ExprTree) (fault : FilterFault)
         → IsFilterText catalogue text e → IsRefused catalogue text fault → ⊥ }
+{}
+
+/// Any text is a filter over a catalogue, or is refused with a fault.
+pub fn filter_or_refused()
+    ensures { (catalogue : List SpecTree) (text : List ℕ) → ((e : ExprTree) × IsFilterText catalogue text e)
+        ⊎ ((fault : FilterFault) × IsRefused catalogue text fault) }
 {}
 
 /// An expression says of a record that has none of the items that it asks what it says of a record without items. Items of which

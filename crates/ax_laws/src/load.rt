@@ -1,6 +1,6 @@
 //! The laws of category files and of expansion files. Each function stands for what its contract says.
 
-ghost use Rattle.std.specs.Prelude.{◌≡◌, ◌≢◌, ℕ, Bool, List, Some};
+ghost use Rattle.std.specs.Prelude.{◌≡◌, ◌≢◌, ℕ, ◌⊎◌, Bool, List, Some};
 ghost use Rattle.ax_load.specs.declared.fault.LoadStop.{LoadStop};
 ghost use Rattle.ax_load.specs.declared.fault.LoadStop.TheVariants.{OutOfMemory};
 ghost use Rattle.ax_load.specs.declared.fault.SpecFault.{SpecFault};
@@ -22,7 +22,14 @@ pub fn file_accepted_once()
         → fault ≡ other }
 {}
 
-/// So it is of expansion files.
+/// Any octets are accepted with a specification, or refused with a fault; and as an expansion file with an expansion, or refused.
+pub fn file_accepted_or_refused()
+    ensures category { (octets : List ℕ) → ((spec : SpecTree) × IsAccepted octets spec) ⊎ ((fault : SpecFault) × IsRefused octets fault) }
+    ensures expansion { (octets : List ℕ) → ((x : ExpansionTree) × IsAcceptedIn expansion_files octets x)
+        ⊎ ((fault : SpecFault) × IsRefusedIn expansion_files octets fault) }
+{}
+
+/// An expansion file is accepted with one expansion, an accepted one isn't refused, and a refused one has one fault.
 pub fn expansion_file_accepted_once()
     ensures once { (octets : List ℕ) (x other : ExpansionTree) → IsAcceptedIn expansion_files octets x
         → IsAcceptedIn expansion_files octets other → x ≡ other }
@@ -44,4 +51,11 @@ pub fn files_give_once()
     ensures ends_once { (distinct : Bool) (files : List File) (c : LibraryCounts) (names : List (List ℕ)) (outcome other : LoadStop)
         → (Rose c.faults c.faults' → ⊥) → outcome ≢ OutOfMemory → other ≢ OutOfMemory
         → FilesEnd distinct (Some files) c names outcome → FilesEnd distinct (Some files) c names other → outcome ≡ other }
+{}
+
+/// Files of any names give specifications, or loading them ends, and not for want of memory.
+pub fn files_give_or_end()
+    ensures { (distinct : Bool) (files : List File) (c : LibraryCounts) (names : List (List ℕ)) →
+        ((catalogue : List SpecTree) × FilesGive distinct (Some files) names catalogue)
+        ⊎ ((outcome : LoadStop) × FilesEnd distinct (Some files) c names outcome × (outcome ≢ OutOfMemory)) }
 {}

@@ -5,6 +5,7 @@ import sys
 from collections.abc import Iterator
 
 TOP = pathlib.Path(__file__).resolve().parent.parent
+sys.dont_write_bytecode = True
 sys.path.insert(0, str(TOP / "tools"))
 import layouts  # noqa: E402
 

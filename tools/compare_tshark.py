@@ -31,6 +31,7 @@ from fractions import Fraction
 from typing import NamedTuple
 
 TOP = pathlib.Path(__file__).resolve().parent.parent
+sys.dont_write_bytecode = True
 sys.path.insert(0, str(TOP / "tools"))
 import layouts  # noqa: E402
 

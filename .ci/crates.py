@@ -58,6 +58,11 @@ def line_faults(text: str) -> Iterator[str]:
             yield f"crates.txt: no crate with what it uses: {line}"
 
 
+def above(crate: str, uses: dict[str, list[str]]) -> list[str]:
+    """The crates that are made of one, itself first, in the order of crates.txt: those that a change of it has proved again."""
+    return [crate, *(name for name in uses if name != crate and crate in made_of(name, uses))]
+
+
 def layer_faults(layers: list[tuple[str, list[str]]], uses: dict[str, list[str]]) -> Iterator[str]:
     """Where crates.txt doesn't keep to its layers."""
     place: dict[str, tuple[int, int]] = {}
@@ -168,6 +173,7 @@ def library_faults(top: pathlib.Path, uses: dict[str, list[str]]) -> Iterator[st
 def page_faults(top: pathlib.Path, uses: dict[str, list[str]]) -> list[str]:
     """What .ci/crate_pages.py says of the READMEs of the crates."""
     sys.path.insert(0, str(pathlib.Path(__file__).resolve().parent))
+    sys.dont_write_bytecode = True
     try:
         pages = importlib.import_module("crate_pages")
     except ModuleNotFoundError:
@@ -176,12 +182,19 @@ def page_faults(top: pathlib.Path, uses: dict[str, list[str]]) -> list[str]:
 
 
 def main() -> int:
-    """Prints what doesn't hold. The status is 1 where there is something."""
+    """Prints what doesn't hold. The status is 1 if there is something."""
     parser = argparse.ArgumentParser(description=__doc__.splitlines()[0])
     parser.add_argument("top", nargs="?", type=pathlib.Path, default=pathlib.Path(__file__).resolve().parent.parent, help="a clone")
-    top = parser.parse_args().top
+    parser.add_argument("--above", metavar="CRATE", help="print the crates that a change of this one has proved again, and hold nothing")
+    words = parser.parse_args()
+    top = words.top
     text = (top / "crates.txt").read_text()
     layers, uses = layers_of(text), uses_of(text)
+    if words.above:
+        if words.above not in uses:
+            parser.error(f"crates.txt has no crate {words.above}")
+        print(" ".join(above(words.above, uses)))
+        return 0
     faults = [*line_faults(text), *layer_faults(layers, uses), *picture_faults(top, layers), *library_faults(top, uses), *page_faults(top, uses)]
     for fault in faults:
         print(f"checks: {fault}", file=sys.stderr)

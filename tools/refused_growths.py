@@ -1,7 +1,7 @@
 #!/usr/bin/env python3
 """refused_growths.py [PROGRAM]
 
-Runs five commands of the built program with each of its allocations refused in turn, the first to the last of those that it makes
+Runs seven commands of the built program with each of its allocations refused in turn, the first to the last of those that it makes
 with ample memory. A run has to end with status 5, the line `refused memory` last on the report, and no octet on the output (the
 commands here write at their end); or as with ample memory, where what was refused could be done without. It prints how many
 there are of each. It wants a C compiler, and stands outside the gate."""

@@ -1,19 +1,22 @@
-//! The program `asterix`: it makes the real library, source and sinks, and leaves all else to `run`.
+//! The program `asterix`: it makes the real library and the real streams, and leaves all else to `run`.
 #![tactic(auto)]
 
-mod held;
-mod own_lines;
-mod tied;
+ghost use Rattle.std.specs.Prelude.{◌≡◌, Some, None};
+ghost use Rattle.ax_command.specs.declared.outcome.Outcome.TheVariants.{WriteFault, ReportFault};
+ghost use Rattle.ax_command.specs.Status.{status_of};
+ghost use Rattle.ax_tied_streams.specs.declared.streams.Ending.TheVariants.{Whole, OutputFailed, LineLost, OwnLineLost};
 
-use crate::held::Failed;
+mod own_lines;
+
 use crate::own_lines::own_lines;
-use crate::tied::{Shared, TiedReader, TiedReport, TiedWriter, close_shared, share};
 use ax_app::{Outcome, run};
 use ax_command::write_lines;
 use ax_endpoints::{FolderLibrary, ReadSource, WriteSink};
+use ax_tied_streams::{Closed, Ending, TiedReader, TiedReport, TiedStreams, TiedWriter};
 use std::alloc::Global;
+use std::cell::RefCell;
 use std::env;
-use std::io::{self, BufReader, ErrorKind, Stderr, Stdin, Stdout};
+use std::io::{self, BufReader, ErrorKind, Stderr, Stdin, Stdout, Write};
 use std::process::ExitCode;
 
 /// The octets of standard input that are read at once, at most.
@@ -29,58 +32,72 @@ fn words_of(alloc: Global, rt: &HostRuntime) -> io::Result<Vec<String>> {
     }
 }
 
-/// Standard input through a buffer, tied to the output and the report.
-fn input_of<'s>(
+/// Writes the lines of an outcome. A report that fails leaves it.
+fn tell<P: Write + Drop>(report: P, outcome: &Outcome) {
+    let _ = write_lines(&mut WriteSink::new(report), outcome);
+}
+
+/// Runs over the streams, standard input through a buffer.
+fn run_over(
     alloc: Global,
-    input: Stdin,
-    shared: &'s Shared<Stdout, Stderr>,
-) -> io::Result<BufReader<TiedReader<'s, Stdin, Stdout, Stderr>>> {
-    BufReader::with_capacity(alloc, INPUT_BUFFER, TiedReader::new(input, shared))
+    words: &Vec<String>,
+    rt: HostRuntime,
+    streams: &RefCell<TiedStreams<Stdin, Stdout, Stderr>>,
+) -> Outcome {
+    let input = BufReader::with_capacity(alloc, INPUT_BUFFER, TiedReader::new(streams));
+    let Ok(input) = input else {
+        tell(TiedReport::new(streams), &Outcome::OutOfMemory);
+        return Outcome::OutOfMemory;
+    };
+    run(
+        alloc,
+        words,
+        &mut FolderLibrary::new(rt),
+        &mut ReadSource::new(input),
+        &mut WriteSink::new(TiedWriter::new(streams)),
+        &mut WriteSink::new(TiedReport::new(streams)),
+    )
 }
 
-/// Want of memory, before anything was read: its line and its status.
-fn out_of_memory(report: Stderr) -> ExitCode {
-    let mut report = WriteSink::new(report);
-    // A report that fails leaves the outcome.
-    let _ = write_lines(&mut report, &Outcome::OutOfMemory);
-    ExitCode::from(Outcome::OutOfMemory.status())
-}
-
-/// How the program ends where a write of what was held back has failed that a run which ended so doesn't know of.
-fn late_ending(outcome: &Outcome, failed: Option<Failed>) -> Option<Outcome> {
-    match (outcome, failed) {
-        (Outcome::WriteFault | Outcome::ReportFault, _) => None,
-        (_, Some(Failed::Output)) => Some(Outcome::WriteFault),
-        (_, Some(Failed::Line)) => Some(Outcome::ReportFault),
-        (_, Some(Failed::ToldLine) | None) => None,
+/// The outcome in place of the run's own, where not all of its output, or of the lines before its own last ones, is out.
+fn late_outcome(ending: Ending) -> Option<Outcome>
+    ensures output { ending ≡ OutputFailed → result ≡ Some WriteFault }
+    ensures line { ending ≡ LineLost → result ≡ Some ReportFault }
+    ensures own_line { ending ≡ OwnLineLost → result ≡ None }
+    ensures whole { ending ≡ Whole → result ≡ None }
+{
+    match ending {
+        Ending::OutputFailed => Some(Outcome::WriteFault),
+        Ending::LineLost => Some(Outcome::ReportFault),
+        Ending::OwnLineLost | Ending::Whole => None,
     }
+}
+
+/// The program's status. The line of an outcome that takes the place of the run's own is written, once.
+fn status_at_end<W: Write + Drop, P: Write + Drop>(outcome: &Outcome, closed: Closed<W, P>) -> u8
+    ensures output { closed.ending ≡ OutputFailed → result ≡ status_of WriteFault }
+    ensures line { closed.ending ≡ LineLost → result ≡ status_of ReportFault }
+    ensures own_line { closed.ending ≡ OwnLineLost → result ≡ status_of outcome.now }
+    ensures whole { closed.ending ≡ Whole → result ≡ status_of outcome.now }
+{
+    let Some(late) = late_outcome(closed.ending) else {
+        return outcome.status();
+    };
+    tell(closed.report, &late);
+    late.status()
 }
 
 fn main(rt: HostRuntime) -> ExitCode {
     let alloc = rt.alloc();
-    let (Ok(words), Ok(shared)) = (words_of(alloc, &rt), share(alloc, rt.stdout(), rt.stderr()))
-    else {
-        return out_of_memory(rt.stderr());
+    let streams = TiedStreams::new(alloc, rt.stdin(), rt.stdout(), rt.stderr());
+    let (Ok(words), Ok(streams)) = (words_of(alloc, &rt), streams) else {
+        tell(rt.stderr(), &Outcome::OutOfMemory);
+        return ExitCode::from(Outcome::OutOfMemory.status());
     };
-    let Ok(input) = input_of(alloc, rt.stdin(), &shared) else {
-        return out_of_memory(rt.stderr());
-    };
-    let mut source = ReadSource::new(input);
-    let mut out = WriteSink::new(TiedWriter::new(&shared));
-    let mut report = WriteSink::new(TiedReport::new(&shared));
-    let mut library = FolderLibrary::new(rt);
-    let outcome = run(
-        alloc,
-        &words,
-        &mut library,
-        &mut source,
-        &mut out,
-        &mut report,
-    );
-    let failed = close_shared(&shared, own_lines(alloc, &outcome));
-    let Some(late) = late_ending(&outcome, failed) else {
-        return ExitCode::from(outcome.status());
-    };
-    let _ = write_lines(&mut report, &late);
-    ExitCode::from(late.status())
+    let streams = RefCell::new(streams);
+    let outcome = run_over(alloc, &words, rt, &streams);
+    // Where memory is wanting, lines that are lost count as lines of blocks.
+    let own = own_lines(alloc, &outcome).unwrap_or(0);
+    let closed = streams.into_inner().close(own);
+    ExitCode::from(status_at_end(&outcome, closed))
 }

@@ -1,0 +1,5 @@
+pub mod Histories
+pub mod Streams
+pub mod Orders
+pub mod Puts
+pub mod Held

@@ -309,7 +309,7 @@ CASES = [
     (
         "migrate before after < losing",
         [
-            "laid out otherwise: before:182:5 `spare`, after:182:5 `SFC`",
+            "laid out otherwise: before:268:5 `spare`, after:270:5 `SFC`",
             "(said once of each path)",
         ],
     ),

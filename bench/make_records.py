@@ -1,161 +1,139 @@
 #!/usr/bin/env python3
-"""make_records.py CATEGORY_FILE MEGABYTES [SEED] > STREAM
+"""make_records.py CATEGORY_FILE MEGABYTES [SEED] [--expansion EXPANSION_FILE] [--once] [--without ITEM] > STREAM
 
 Writes a stream of data blocks of one category by its file, in canonical form. Items, subitems and numbers are random: most items of a
-record are there, and a third of the subitems of a compound. The category file may have what the files of categories/ have: elements,
-groups, spare bits, extended items with FX in each part, counted items, items by FX, compounds and explicit items. The same words give
-the same octets under one version of Python."""
+record are there, and a third of the subitems of a compound. Two records in a hundred have an RE or SP, whose content is random octets.
+With an expansion file of the category one record in three has an RE, whose content is a random one of that file. With --once each item by
+FX has one occurrence, and with --without no record has that item. The same words give the same octets under one version of Python."""
 import argparse
+import pathlib
 import random
-import re
 import struct
 import sys
+from collections.abc import Callable
+from dataclasses import dataclass
+from typing import Union
 
-TOKEN = re.compile(r'"[^"]*"|[{}]|[^\s{}"]+|#[^\n]*')
+sys.dont_write_bytecode = True
+sys.path.insert(0, str(pathlib.Path(__file__).resolve().parent.parent / "tools"))
+import layouts  # noqa: E402
 
-
-class Reader:
-    """The tokens of a category file, of which the kinds alone are kept."""
-
-    def __init__(self, text):
-        self.tokens = [t for t in TOKEN.findall(text) if not t.startswith("#")]
-        self.at = 0
-
-    def next(self):
-        self.at += 1
-        return self.tokens[self.at - 1]
-
-    def peek(self):
-        return self.tokens[self.at]
-
-    def inside(self, read):
-        """What `read` gives, again and again, up to the closing brace."""
-        if self.next() != "{":
-            sys.exit("make_records.py: no opening brace")
-        found = []
-        while self.peek() != "}":
-            found.append(read())
-        self.next()
-        return found
-
-    def skip_content(self):
-        """Passes over what an element's number means."""
-        word = self.next()
-        words = {"integer": 1, "quantity": 4}.get(word, 0)
-        for _ in range(words):
-            self.next()
-        if word == "table":
-            self.inside(self.next)
-
-    def fixed(self):
-        """The width of a fixed kind, in bits."""
-        word = self.next()
-        if word == "element":
-            width = int(self.next())
-            self.skip_content()
-            return width
-        if word == "group":
-            return sum(self.inside(self.member))
-        sys.exit(f"make_records.py: {word} is no fixed kind")
-
-    def member(self):
-        if self.next() == "spare":
-            return int(self.next())
-        return self.fixed()
-
-    def part(self):
-        self.next()
-        return sum(self.inside(self.member))
-
-    def slot(self):
-        return None if self.next() == "-" else self.kind()
-
-    def kind(self):
-        word = self.peek()
-        if word in ("element", "group"):
-            return ("fixed", self.fixed())
-        self.next()
-        if word == "extended":
-            return (word, self.inside(self.part))
-        if word == "counted":
-            return (word, self.inside(self.kind)[0])
-        if word == "byfx":
-            return (word, self.fixed())
-        if word == "explicit":
-            return (word, None)
-        if word == "compound":
-            return (word, self.inside(self.slot))
-        sys.exit(f"make_records.py: {word} isn't made")
-
-    def item(self):
-        self.next()
-        name = self.next()
-        self.next()
-        return name, self.kind()
-
-    def file(self):
-        """The category, the kinds of its items by name, and its slots."""
-        self.next()
-        category = int(self.next())
-        while self.next() != "items":
-            pass
-        items = dict(self.inside(self.item))
-        self.next()
-        return category, [items.get(name) for name in self.inside(self.next)]
+# The longest content of an explicit item.
+LONGEST = 254
 
 
-def marked(slots, share, chance):
-    """A presence field, and the values of the slots that it marks."""
+@dataclass(frozen=True)
+class Once(layouts.ByFx):
+    """An item by FX that has one occurrence."""
+
+
+class Expanded(layouts.Explicit):
+    """An RE, of which an expansion file says what is inside."""
+
+    def __init__(self, slots: layouts.Compound) -> None:
+        self.slots = slots
+
+
+Slots = list[Union[layouts.Kind, None]]
+
+
+def kinds_of(slots: tuple[tuple[str, layouts.Kind] | None, ...]) -> Slots:
+    """The kinds of slots, without their names."""
+    return [slot[1] if slot else None for slot in slots]
+
+
+def marked(slots: Slots, share: Callable[[layouts.Kind], float], chance: random.Random, octets: int | None = None) -> bytes:
+    """A presence field, and the values of the slots that it marks. The field has FX, or is so many octets without."""
     there = [i for i, kind in enumerate(slots) if kind and chance.random() < share(kind)]
     there = there or [next(i for i, kind in enumerate(slots) if kind)]
-    field = bytearray(there[-1] // 7 + 1)
+    marks = 8 if octets else 7
+    field = bytearray(octets or there[-1] // marks + 1)
     for i in there:
-        field[i // 7] |= 0x80 >> i % 7
-    for at in range(len(field) - 1):
+        field[i // marks] |= 0x80 >> i % marks
+    for at in range(0 if octets else len(field) - 1):
         field[at] |= 1
     return bytes(field) + b"".join([value(slots[i], chance) for i in there])
 
 
-def number(bits, fx, chance):
+def number(bits: int, fx: int, chance: random.Random) -> bytes:
     """Bits by chance and an FX bit after them."""
     return (chance.getrandbits(bits) << 1 | fx).to_bytes((bits + 1) // 8, "big")
 
 
-def value(kind, chance):
-    name, inner = kind
-    if name == "fixed":
-        return chance.getrandbits(inner).to_bytes(inner // 8, "big")
-    if name == "extended":
-        count = 1 + min(int(chance.expovariate(1)), len(inner) - 1)
-        return b"".join([number(bits, i + 1 < count, chance) for i, bits in enumerate(inner[:count])])
-    if name == "counted":
+def share_of_subitems(kind: layouts.Kind) -> float:
+    """How many compounds have a subitem. Counted subitems are the long lists of a message: few have them."""
+    return 0.05 if isinstance(kind, layouts.Counted) else 0.33
+
+
+def value(kind: layouts.Kind, chance: random.Random) -> bytes:
+    """A value of a kind, by chance."""
+    if isinstance(kind, (layouts.Element, layouts.Group)):
+        bits = layouts.bits_of(kind)
+        return chance.getrandbits(bits).to_bytes(bits // 8, "big")
+    if isinstance(kind, layouts.Parts):
+        widths = [layouts.bits_of(part) for part in kind.parts]
+        count = 1 + min(int(chance.expovariate(1)), len(widths) - 1)
+        made = []
+        for i, bits in enumerate(widths[:count]):
+            if kind.is_closed and i + 1 == len(widths):
+                made.append(chance.getrandbits(bits).to_bytes(bits // 8, "big"))
+            else:
+                made.append(number(bits, i + 1 < count, chance))
+        return b"".join(made)
+    if isinstance(kind, layouts.Counted):
         count = chance.randrange(1, 4)
-        return bytes([count]) + b"".join([value(inner, chance) for _ in range(count)])
-    if name == "byfx":
-        count = chance.randrange(1, 3)
-        return b"".join([number(inner, i + 1 < count, chance) for i in range(count)])
-    if name == "explicit":
+        return count.to_bytes(kind.octets, "big") + b"".join([value(kind.body, chance) for _ in range(count)])
+    if isinstance(kind, layouts.ByFx):
+        count = chance.randrange(1, 2 if isinstance(kind, Once) else 3)
+        return b"".join([number(layouts.bits_of(kind.body), i + 1 < count, chance) for i in range(count)])
+    if isinstance(kind, Expanded):
+        content = bytes(LONGEST + 1)
+        while len(content) > LONGEST:
+            content = marked(kinds_of(kind.slots.slots), share_of_subitems, chance, kind.slots.octets)
+        return bytes([len(content) + 1]) + content
+    if isinstance(kind, layouts.Explicit):
         count = chance.randrange(1, 8)
         return bytes([count + 1]) + chance.randbytes(count)
-    # Counted subitems are the long lists of a message: few have them.
-    return marked(inner, lambda kind: 0.05 if kind[0] == "counted" else 0.33, chance)
+    return marked(kinds_of(kind.slots), share_of_subitems, chance)
 
 
-def main():
+def share_of_items(kind: layouts.Kind) -> float:
+    """How many records have an item. Explicit items are RE and SP: few messages have them."""
+    if isinstance(kind, Expanded):
+        return 0.33
+    return 0.02 if isinstance(kind, layouts.Explicit) else 0.7
+
+
+def with_expansion(layout: layouts.Layout, slots: Slots, text: str) -> Slots:
+    """The slots of a category file, RE by an expansion file."""
+    category, inside = layouts.expansion_of(text)
+    if category != layout.category:
+        sys.exit("make_records.py: the two files are of two categories")
+    return [Expanded(inside) if slot and slot[0] == "RE" else kind for slot, kind in zip(layout.slots, slots)]
+
+
+def main() -> None:
+    """Writes the stream."""
     parser = argparse.ArgumentParser(description=__doc__, formatter_class=argparse.RawDescriptionHelpFormatter)
-    parser.add_argument("file", metavar="CATEGORY_FILE")
-    parser.add_argument("megabytes", type=float)
-    parser.add_argument("seed", nargs="?", type=int, default=1)
+    parser.add_argument("file", metavar="CATEGORY_FILE", type=pathlib.Path)
+    parser.add_argument("megabytes", metavar="MEGABYTES", type=float)
+    parser.add_argument("seed", metavar="SEED", nargs="?", type=int, default=1)
+    parser.add_argument("--expansion", metavar="EXPANSION_FILE", type=pathlib.Path)
+    parser.add_argument("--once", action="store_true")
+    parser.add_argument("--without", metavar="ITEM")
     words = parser.parse_args()
-    with open(words.file, encoding="utf-8") as file:
-        category, slots = Reader(file.read()).file()
+    layout = layouts.layout_of(words.file.read_text(encoding="utf-8"))
+    slots = kinds_of(layout.slots)
+    if words.once:
+        slots = [Once(kind.body) if isinstance(kind, layouts.ByFx) else kind for kind in slots]
+    slots = [None if slot and slot[0] == words.without else kind for slot, kind in zip(layout.slots, slots)]
+    if words.expansion:
+        slots = with_expansion(layout, slots, words.expansion.read_text(encoding="utf-8"))
     chance = random.Random(words.seed)
     left = int(words.megabytes * 1_000_000)
-    # Explicit items are RE and SP: few messages have them.
-    share = lambda kind: 0.02 if kind[0] == "explicit" else 0.7
     while left > 0:
-        body = b"".join([marked(slots, share, chance) for _ in range(chance.randrange(1, 9))])
-        sys.stdout.buffer.write(struct.pack(">BH", category, len(body) + 3) + body)
+        body = b"".join([marked(slots, share_of_items, chance) for _ in range(chance.randrange(1, 9))])
+        sys.stdout.buffer.write(struct.pack(">BH", int(layout.category), len(body) + 3) + body)
         left -= len(body) + 3
 
 

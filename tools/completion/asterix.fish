@@ -33,7 +33,7 @@ function __asterix_wants_file
     if test $at -gt (count $shape); and string match -q '*...' -- $shape[-1]
         set at (count $shape)
     end
-    test $at -le (count $shape); and string match -qr '^(SPEC|OLD|NEW)' -- $shape[$at]
+    test $at -le (count $shape); and string match -qr '^(SPEC|OLD|NEW|EXPANSION)' -- $shape[$at]
 end
 for program in asterix asterix-why
     complete -c $program -f

@@ -37,7 +37,7 @@ def main() -> int:
     """Compares the two."""
     wanted = set()
     for file in sorted((TOP / "categories").glob("[0-9]*")):
-        layout = layouts.layout_of(file.read_text(encoding="utf-8"))
+        layout = layouts.layout_in(file)
         for slot in layout.slots:
             if slot:
                 wanted |= {(file.name, *one) for one in raw_of(f"{layout.category}/{slot[0]}", slot[1])}

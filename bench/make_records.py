@@ -104,9 +104,9 @@ def share_of_items(kind: layouts.Kind) -> float:
     return 0.02 if isinstance(kind, layouts.Explicit) else 0.7
 
 
-def with_expansion(layout: layouts.Layout, slots: Slots, text: str) -> Slots:
+def with_expansion(layout: layouts.Layout, slots: Slots, file: pathlib.Path) -> Slots:
     """The slots of a category file, RE by an expansion file."""
-    category, inside = layouts.expansion_of(text)
+    category, inside = layouts.expansion_in(file)
     if category != layout.category:
         sys.exit("make_records.py: the two files are of two categories")
     return [Expanded(inside) if slot and slot[0] == "RE" else kind for slot, kind in zip(layout.slots, slots)]
@@ -122,13 +122,13 @@ def main() -> None:
     parser.add_argument("--once", action="store_true")
     parser.add_argument("--without", metavar="ITEM")
     words = parser.parse_args()
-    layout = layouts.layout_of(words.file.read_text(encoding="utf-8"))
+    layout = layouts.layout_in(words.file)
     slots = kinds_of(layout.slots)
     if words.once:
         slots = [Once(kind.body) if isinstance(kind, layouts.ByFx) else kind for kind in slots]
     slots = [None if slot and slot[0] == words.without else kind for slot, kind in zip(layout.slots, slots)]
     if words.expansion:
-        slots = with_expansion(layout, slots, words.expansion.read_text(encoding="utf-8"))
+        slots = with_expansion(layout, slots, words.expansion)
     chance = random.Random(words.seed)
     left = int(words.megabytes * 1_000_000)
     while left > 0:
@@ -138,4 +138,7 @@ def main() -> None:
 
 
 if __name__ == "__main__":
-    main()
+    try:
+        main()
+    except (OSError, layouts.BadLayout) as fault:
+        sys.exit(f"make_records.py: {fault}")

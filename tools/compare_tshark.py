@@ -13,7 +13,7 @@ have one occurrence here, since tshark shows only one.
 
 Each difference is a line: the file, the path, what differs, an example and how many elements. Those that categories/TSHARK.tsv judges
 are counted and not written; its rows of meaning are of pairs of texts that were read by hand. Then the counts come. The status is 1 if a
-difference isn't judged, or a row there is of no difference. It needs tshark (tried with 4.0.17) and the built program.
+difference isn't judged, or a row there is of no difference, and 2 if a file or tshark can't be read. It needs tshark (tried with 4.0.17) and the built program.
 """
 
 import argparse
@@ -225,7 +225,7 @@ class Comparison:
 
     def run(self, file: pathlib.Path, octets: int, seed: int) -> None:
         """Compares a file."""
-        layout = layouts.layout_of(file.read_text())
+        layout = layouts.layout_in(file)
         self.tables = set(tables_of(layout))
         made = [sys.executable, str(TOP / "bench/make_records.py"), str(file), str(octets / 1_000_000), str(seed), "--once"]
         if layout.category in MISREAD:
@@ -335,4 +335,8 @@ def main() -> int:
 
 
 if __name__ == "__main__":
-    sys.exit(main())
+    try:
+        sys.exit(main())
+    except (OSError, layouts.BadLayout, subprocess.CalledProcessError) as fault:
+        print(f"compare_tshark.py: {fault}", file=sys.stderr)
+        sys.exit(2)

@@ -1,6 +1,7 @@
 """Category files and expansion files as trees, for scripts of this repository. Only files that the program accepts are read; of another
 file BadLayout names the first token that can't be read."""
 
+import pathlib
 import re
 from collections.abc import Callable, Iterator
 from dataclasses import dataclass, field
@@ -215,6 +216,24 @@ def layout_of(text: str) -> Layout:
     reader.want("uap")
     names = list(reader.inside(reader.next))
     return Layout(category, edition, tuple((name, items[name]) if name in items else None for name in names))
+
+
+def layout_in(file: pathlib.Path) -> Layout:
+    """A category file, by its path. BadLayout names the file; OSError is that it can't be read."""
+    return read_in(file, layout_of)
+
+
+def expansion_in(file: pathlib.Path) -> tuple[str, Compound]:
+    """An expansion file, by its path, with the errors of `layout_in`."""
+    return read_in(file, expansion_of)
+
+
+def read_in(file: pathlib.Path, of: Callable[[str], T]) -> T:
+    """What is made of a file's text."""
+    try:
+        return of(file.read_text(encoding="utf-8"))
+    except (BadLayout, ValueError) as error:
+        raise BadLayout(f"{file}: {error}") from error
 
 
 def expansion_of(text: str) -> tuple[str, Compound]:

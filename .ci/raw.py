@@ -5,7 +5,6 @@ import collections
 import pathlib
 import re
 import sys
-from collections.abc import Iterator
 
 TOP = pathlib.Path(__file__).resolve().parent.parent
 sys.dont_write_bytecode = True
@@ -13,34 +12,13 @@ sys.path.insert(0, str(TOP / "tools"))
 import layouts  # noqa: E402
 
 
-def raw_of(path: str, kind: layouts.Kind) -> Iterator[tuple[str, int]]:
-    """The path and the bits of each raw element of a kind."""
-    if isinstance(kind, layouts.Element):
-        if kind.content.words == ("raw",):
-            yield path, kind.width
-    elif isinstance(kind, layouts.Group):
-        for name, member in kind.members:
-            if name:
-                yield from raw_of(f"{path}/{name}", member)
-    elif isinstance(kind, layouts.Parts):
-        for part in kind.parts:
-            yield from raw_of(path, part)
-    elif isinstance(kind, (layouts.Counted, layouts.ByFx)):
-        yield from raw_of(path, kind.body)
-    elif isinstance(kind, layouts.Compound):
-        for slot in kind.slots:
-            if slot:
-                yield from raw_of(f"{path}/{slot[0]}", slot[1])
-
-
 def main() -> int:
     """Compares the two."""
     wanted = set()
     for file in sorted((TOP / "categories").glob("[0-9]*")):
-        layout = layouts.layout_in(file)
-        for slot in layout.slots:
-            if slot:
-                wanted |= {(file.name, *one) for one in raw_of(f"{layout.category}/{slot[0]}", slot[1])}
+        for path, element in layouts.elements_of(layouts.layout_in(file)):
+            if element.content.words == ("raw",):
+                wanted.add((file.name, path, element.width))
     rows = [line.split("\t") for line in (TOP / "categories/RAW.tsv").read_text(encoding="utf-8").splitlines()[1:]]
     named = {(file, path, int(bits)) for _, path, bits, files, _ in rows for file in files.split()}
     for file, path, bits in sorted(wanted - named):

@@ -13,7 +13,8 @@ have one occurrence here, since tshark shows only one.
 
 Each difference is a line: the file, the path, what differs, an example and how many elements. Those that categories/TSHARK.tsv judges
 are counted and not written; its rows of meaning are of pairs of texts that were read by hand. Then the counts come. The status is 1 if a
-difference isn't judged, or a row there is of no difference, and 2 if a file or tshark can't be read. It needs tshark (tried with 4.0.17) and the built program.
+difference isn't judged, or a row there is of no difference, and 2 if a file or tshark can't be read. It needs tshark (tried with 4.0.17)
+and the built program.
 """
 
 import argparse
@@ -226,7 +227,7 @@ class Comparison:
     def run(self, file: pathlib.Path, octets: int, seed: int) -> None:
         """Compares a file."""
         layout = layouts.layout_in(file)
-        self.tables = set(tables_of(layout))
+        self.tables = {path for path, element in layouts.elements_of(layout) if element.content.words[0] == "table"}
         made = [sys.executable, str(TOP / "bench/make_records.py"), str(file), str(octets / 1_000_000), str(seed), "--once"]
         if layout.category in MISREAD:
             made += ["--without", MISREAD[layout.category]]
@@ -258,31 +259,6 @@ class Comparison:
                         if what:
                             text = self.tshark.texts.get(one.name, {}).get(leaf.number, "")
                             self.differs(leaf.path, what, f"{leaf.number} {leaf.remark} and {one.show} {text}".strip())
-
-
-def tables_of(layout: layouts.Layout) -> Iterator[str]:
-    """The paths of a category file whose content is a table."""
-
-    def inside(path: str, kind: layouts.Kind) -> Iterator[str]:
-        if isinstance(kind, layouts.Element):
-            if kind.content.words[0] == "table":
-                yield path
-        elif isinstance(kind, layouts.Group):
-            for name, member in kind.members:
-                yield from inside(f"{path}/{name}", member)
-        elif isinstance(kind, layouts.Parts):
-            for part in kind.parts:
-                yield from inside(path, part)
-        elif isinstance(kind, (layouts.Counted, layouts.ByFx)):
-            yield from inside(path, kind.body)
-        elif isinstance(kind, layouts.Compound):
-            for slot in kind.slots:
-                if slot:
-                    yield from inside(f"{path}/{slot[0]}", slot[1])
-
-    for slot in layout.slots:
-        if slot:
-            yield from inside(f"{layout.category}/{slot[0]}", slot[1])
 
 
 def judged() -> dict[tuple[str, str, str], str]:

@@ -94,6 +94,33 @@ def bits_of(kind: Fixed) -> int:
     return kind.width if isinstance(kind, Element) else sum(bits_of(member) for _, member in kind.members)
 
 
+def elements_of(layout: Layout) -> Iterator[tuple[str, Element]]:
+    """Each element of a category file with its path, without spare bits. The elements of a part and of an occurrence have the item's
+    path and their own names."""
+    for slot in layout.slots:
+        if slot:
+            yield from elements_in(f"{layout.category}/{slot[0]}", slot[1])
+
+
+def elements_in(path: str, kind: Kind) -> Iterator[tuple[str, Element]]:
+    """Each element of a kind at a path, with its own path."""
+    if isinstance(kind, Element):
+        yield path, kind
+    elif isinstance(kind, Group):
+        for name, member in kind.members:
+            if name:
+                yield from elements_in(f"{path}/{name}", member)
+    elif isinstance(kind, Parts):
+        for part in kind.parts:
+            yield from elements_in(path, part)
+    elif isinstance(kind, (Counted, ByFx)):
+        yield from elements_in(path, kind.body)
+    elif isinstance(kind, Compound):
+        for slot in kind.slots:
+            if slot:
+                yield from elements_in(f"{path}/{slot[0]}", slot[1])
+
+
 class Reader:
     """Reads the tokens of a text."""
 

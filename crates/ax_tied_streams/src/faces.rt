@@ -6,6 +6,7 @@ use crate::streams::TiedStreams;
 use std::cell::RefCell;
 use std::io::{self, ErrorKind, Read, Write};
 
+/// The streams are borrowed already: no call of these ends is made inside another.
 fn busy() -> io::Error {
     io::Error::from(ErrorKind::ResourceBusy)
 }
@@ -17,6 +18,7 @@ pub struct TiedReader<'s, R: Read + Drop, W: Write + Drop, P: Write + Drop> {
 }
 
 impl<'s, R: Read + Drop, W: Write + Drop, P: Write + Drop> TiedReader<'s, R, W, P> {
+    /// The input of these streams. A read writes what is held back first; Err is that a write failed, or that the input did.
     pub fn new(streams: &'s RefCell<TiedStreams<R, W, P>>) -> TiedReader<'s, R, W, P> {
         TiedReader { streams }
     }
@@ -38,6 +40,7 @@ pub struct TiedWriter<'s, R: Read + Drop, W: Write + Drop, P: Write + Drop> {
 }
 
 impl<'s, R: Read + Drop, W: Write + Drop, P: Write + Drop> TiedWriter<'s, R, W, P> {
+    /// The output of these streams. Err is that a write has failed.
     pub fn new(streams: &'s RefCell<TiedStreams<R, W, P>>) -> TiedWriter<'s, R, W, P> {
         TiedWriter { streams }
     }
@@ -67,6 +70,7 @@ pub struct TiedReport<'s, R: Read + Drop, W: Write + Drop, P: Write + Drop> {
 }
 
 impl<'s, R: Read + Drop, W: Write + Drop, P: Write + Drop> TiedReport<'s, R, W, P> {
+    /// The report of these streams. A write takes octets even where a write has failed, and drops them then.
     pub fn new(streams: &'s RefCell<TiedStreams<R, W, P>>) -> TiedReport<'s, R, W, P> {
         TiedReport { streams }
     }

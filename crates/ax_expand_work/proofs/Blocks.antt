@@ -70,8 +70,8 @@ module _ (spec : SpecTree) (frn : ℕ) (x : ExpansionTree) (number : ℕ) (raw :
   memory_taken held shown fails flaws = takes_nothing (expand_command spec frn x) number raw held shown fails flaws
 
   -- its lines, gathered after none
-  gives_lines : (own : Codec) (body : List ℕ) (old new : ContentLines) → own ≡ codec → body ≡ raw.body → raw.category ≡ codec.category → length raw.body ≤ 65532 → SpellsSome codec raw.body → old.spelled ≡ [] → old.faulty ≡ [] → GathersBlock x frn number own body old new
-      → GivesFor (expand_command spec frn x) number raw new.faulty new.spelled
+  gives_lines : (own : Codec) (body : List ℕ) (old new : ContentLines) → own ≡ codec → body ≡ raw.body → raw.category ≡ codec.category → length raw.body ≤ 65532 → SpellsSome codec raw.body → old.spelled.octets ≡ [] → old.faulty.octets ≡ [] → GathersBlock x frn number own body old new
+      → GivesFor (expand_command spec frn x) number raw new.faulty.octets new.spelled.octets
   gives_lines own body old new at is same few spells none clear g =
       let stands : StandsFor own spec = subst (λ c. StandsFor c spec) (sym at) compiled.stands in
       let some = spells.spells spec compiled.clean compiled.stands in
@@ -86,14 +86,14 @@ module _ (spec : SpecTree) (frn : ℕ) (x : ExpansionTree) (number : ℕ) (raw :
       }
 
   pub lines_taken : (own : Codec) (body : List ℕ) (old new : ContentLines) (o r : SinkChange) (u : Unit) (said laid : List ℕ) (result : Result Unit WorkStop) → own ≡ codec → body ≡ raw.body → raw.category ≡ codec.category → length raw.body ≤ 65532 → SpellsSome codec raw.body
-      → old.spelled ≡ [] → old.faulty ≡ [] → GathersBlock x frn number own body old new → said ≡ new.faulty → Wrote r (Ok u) said → laid ≡ new.spelled → WritesOctets o laid result → Takes (expand_command spec frn x) number raw o r result
+      → old.spelled.octets ≡ [] → old.faulty.octets ≡ [] → GathersBlock x frn number own body old new → said ≡ new.faulty.octets → Wrote r (Ok u) said → laid ≡ new.spelled.octets → WritesOctets o laid result → Takes (expand_command spec frn x) number raw o r result
   lines_taken own body old new o r u said laid result at is same few spells none clear g s w l v =
-      takes_after_lines (expand_command spec frn x) number raw o r new.faulty new.spelled u result (gives_lines own body old new at is same few spells none clear g)
+      takes_after_lines (expand_command spec frn x) number raw o r new.faulty.octets new.spelled.octets u result (gives_lines own body old new at is same few spells none clear g)
       (subst (Wrote r (Ok u)) s w) (subst (λ t. WritesOctets o t result) l v)
 
   pub lines_cut : (own : Codec) (body : List ℕ) (old new : ContentLines) (held : Option (List ℕ)) (fails : ℕ) (r : SinkChange) (e : SinkFailed) (said : List ℕ) → own ≡ codec → body ≡ raw.body → raw.category ≡ codec.category → length raw.body ≤ 65532 → SpellsSome codec raw.body
-      → old.spelled ≡ [] → old.faulty ≡ [] → GathersBlock x frn number own body old new → said ≡ new.faulty → Wrote r (Err e) said → Takes (expand_command spec frn x) number raw (change held held fails fails) r (Err ReportFault)
+      → old.spelled.octets ≡ [] → old.faulty.octets ≡ [] → GathersBlock x frn number own body old new → said ≡ new.faulty.octets → Wrote r (Err e) said → Takes (expand_command spec frn x) number raw (change held held fails fails) r (Err ReportFault)
   lines_cut own body old new held fails r e said at is same few spells none clear g s w =
-      takes_cut_line (expand_command spec frn x) number raw r held fails new.faulty new.spelled e (gives_lines own body old new at is same few spells none clear g) (subst (Wrote r (Err e)) s w)
+      takes_cut_line (expand_command spec frn x) number raw r held fails new.faulty.octets new.spelled.octets e (gives_lines own body old new at is same few spells none clear g) (subst (Wrote r (Err e)) s w)
 
 pub ruleset takes = (other_taken, fault_taken, memory_taken)

@@ -44,22 +44,22 @@ short_canon form ss v content few h =
     let all = length-bits content in
     omega (arith, few, least, all)
 
-pub line_spelled : (x : ExpansionTree) (block n : ℕ) (content : List ℕ) (v : ValueTree) (old new : ContentLines) → SpellsContent x.form x.slots v (bits content) → new.spelled ≡ old.spelled ++ re_line x block n v → new.faulty ≡ old.faulty
+pub line_spelled : (x : ExpansionTree) (block n : ℕ) (content : List ℕ) (v : ValueTree) (old new : ContentLines) → SpellsContent x.form x.slots v (bits content) → new.spelled.octets ≡ old.spelled.octets ++ re_line x block n v → new.faulty.octets ≡ old.faulty.octets
     → GathersContent x block n (Some content) old new
 line_spelled x block n content v old new h line same = record {
-  spelled = line ∙ ap (λ j. old.spelled ++ spelled_line x block n j) (sym (judge_spelled x content v h));
-  faulty = same ∙ sym (append-nil old.faulty) ∙ ap (λ j. old.faulty ++ faulty_line block n j) (sym (judge_spelled x content v h));
+  spelled = line ∙ ap (λ j. old.spelled.octets ++ spelled_line x block n j) (sym (judge_spelled x content v h));
+  faulty = same ∙ sym (append-nil old.faulty.octets) ∙ ap (λ j. old.faulty.octets ++ faulty_line block n j) (sym (judge_spelled x content v h));
 }
 
-pub line_faulty : (x : ExpansionTree) (block n : ℕ) (content : List ℕ) (p : ℕ) (c : ContentCause) (old new : ContentLines) → FailsContent x.form x.slots (bits content) p c → new.faulty ≡ old.faulty ++ unread_line block n p c → new.spelled ≡ old.spelled
+pub line_faulty : (x : ExpansionTree) (block n : ℕ) (content : List ℕ) (p : ℕ) (c : ContentCause) (old new : ContentLines) → FailsContent x.form x.slots (bits content) p c → new.faulty.octets ≡ old.faulty.octets ++ unread_line block n p c → new.spelled.octets ≡ old.spelled.octets
     → GathersContent x block n (Some content) old new
 line_faulty x block n content p c old new h line same = record {
-  spelled = same ∙ sym (append-nil old.spelled) ∙ ap (λ j. old.spelled ++ spelled_line x block n j) (sym (judge_faulty x content p c h));
-  faulty = line ∙ ap (λ j. old.faulty ++ faulty_line block n j) (sym (judge_faulty x content p c h));
+  spelled = same ∙ sym (append-nil old.spelled.octets) ∙ ap (λ j. old.spelled.octets ++ spelled_line x block n j) (sym (judge_faulty x content p c h));
+  faulty = line ∙ ap (λ j. old.faulty.octets ++ faulty_line block n j) (sym (judge_faulty x content p c h));
 }
 
 pub no_line : (x : ExpansionTree) (block n : ℕ) (lines : ContentLines) → GathersContent x block n None lines lines
-no_line x block n lines = record { spelled = sym (append-nil lines.spelled); faulty = sym (append-nil lines.faulty) }
+no_line x block n lines = record { spelled = sym (append-nil lines.spelled.octets); faulty = sym (append-nil lines.faulty.octets) }
 
 pub fails_as : {form : Form} {ss : SlotsTree} {b : List ℕ} {p q : ℕ} {c d : ContentCause} → p ≡ q → c ≡ d → FailsContent form ss b q d → FailsContent form ss b p c
 fails_as {form = form} {ss = ss} {b = b} {p = p} {d = d} e f h = subst (λ x. FailsContent form ss b p x) (sym f) (subst (λ x. FailsContent form ss b x d) (sym e) h)

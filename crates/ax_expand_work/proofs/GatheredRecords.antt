@@ -50,12 +50,12 @@ module _ (x : ExpansionTree) (block n frn : ℕ) (es : EntriesTree) where
   pub no_item : (lines : ContentLines) → slot_value frn es ≡ None → GathersContent x block n (content_at frn es) lines lines
   no_item lines e =
       let none : content_at frn es ≡ None = ap (option_and_then content_in) e in
-      subst (λ content. GathersContent x block n content lines lines) (sym none) (record { spelled = sym (append-nil lines.spelled); faulty = sym (append-nil lines.faulty) })
+      subst (λ content. GathersContent x block n content lines lines) (sym none) (record { spelled = sym (append-nil lines.spelled.octets); faulty = sym (append-nil lines.faulty.octets) })
 
   pub no_content : (v : ValueTree) (lines : ContentLines) → slot_value frn es ≡ Some v → content_in v ≡ None → GathersContent x block n (content_at frn es) lines lines
   no_content v lines e f =
       let none : content_at frn es ≡ None = ap (option_and_then content_in) e ∙ f in
-      subst (λ content. GathersContent x block n content lines lines) (sym none) (record { spelled = sym (append-nil lines.spelled); faulty = sym (append-nil lines.faulty) })
+      subst (λ content. GathersContent x block n content lines lines) (sym none) (record { spelled = sym (append-nil lines.spelled.octets); faulty = sym (append-nil lines.faulty.octets) })
 
   pub has_content : (v : ValueTree) (content : List ℕ) (old new : ContentLines) → slot_value frn es ≡ Some v → content_in v ≡ Some content → GathersContent x block n (Some content) old new → GathersContent x block n (content_at frn es) old new
   has_content v content old new e f h = subst (λ content. GathersContent x block n content old new) (sym (ap (option_and_then content_in) e ∙ f)) h
@@ -67,8 +67,8 @@ pub record GoesOn (x : ExpansionTree) (frn block : ℕ) (codec : Codec) (spec : 
   pub rest : List EntriesTree
   pub zips : AllZip (IsRecordOf codec spec) rest left
   pub count : n + length rest ≡ length records
-  pub spelled : now.spelled ++ re_lines frn x block n rest ≡ old.spelled ++ re_lines frn x block 0 records
-  pub faulty : now.faulty ++ unread_lines frn x block n rest ≡ old.faulty ++ unread_lines frn x block 0 records
+  pub spelled : now.spelled.octets ++ re_lines frn x block n rest ≡ old.spelled.octets ++ re_lines frn x block 0 records
+  pub faulty : now.faulty.octets ++ unread_lines frn x block n rest ≡ old.faulty.octets ++ unread_lines frn x block 0 records
 
 pub record Gathering (x : ExpansionTree) (frn block : ℕ) (codec : Codec) (body : List ℕ) (n : ℕ) (old now : ContentLines) (left : List (Codec × List ℕ)) : Type 0 where
   pub goes : (spec : SpecTree) (records : List EntriesTree) → NoFlaw spec → StandsFor codec spec → SpellsBody spec records (bits body) → GoesOn x frn block codec spec n records old now left
@@ -89,7 +89,7 @@ module _ (x : ExpansionTree) (frn block : ℕ) (codec : Codec) (body : List ℕ)
   }
 
   one_more : (spec : SpecTree) (n : ℕ) (records : List EntriesTree) (old now new : ContentLines) (s : Codec × List ℕ) (left : List (Codec × List ℕ)) (rest : List EntriesTree) → StandsFor codec spec → AllZip (IsRecordOf codec spec) rest (s ∷ left) → n + length rest ≡ length records
-      → now.spelled ++ re_lines frn x block n rest ≡ old.spelled ++ re_lines frn x block 0 records → now.faulty ++ unread_lines frn x block n rest ≡ old.faulty ++ unread_lines frn x block 0 records
+      → now.spelled.octets ++ re_lines frn x block n rest ≡ old.spelled.octets ++ re_lines frn x block 0 records → now.faulty.octets ++ unread_lines frn x block n rest ≡ old.faulty.octets ++ unread_lines frn x block 0 records
       → GathersContent x block n (content_at frn (entries_in (value_in (record_kind_at s.0.nodes s.0.slots) s.1))) now new → GoesOn x frn block codec spec (n + 1) records old new left
   one_more spec n records old now new s left [] stands zips count spelled faulty g = absurd zips
   one_more spec n records old now new s left (r ∷ rest) stands zips count spelled faulty g =
@@ -97,8 +97,8 @@ module _ (x : ExpansionTree) (frn block : ℕ) (codec : Codec) (body : List ℕ)
         rest = rest;
         zips = zips.1;
         count = omega (arith, count);
-        spelled = ap (λ t. t ++ re_lines frn x block (n + 1) rest) (g.spelled ∙ ap (λ c. now.spelled ++ re_lines_of x block n c) is) ∙ append_assoc now.spelled (re_lines_of x block n (content_at frn r)) (re_lines frn x block (n + 1) rest) ∙ spelled;
-        faulty = ap (λ t. t ++ unread_lines frn x block (n + 1) rest) (g.faulty ∙ ap (λ c. now.faulty ++ unread_lines_of x block n c) is) ∙ append_assoc now.faulty (unread_lines_of x block n (content_at frn r)) (unread_lines frn x block (n + 1) rest) ∙ faulty;
+        spelled = ap (λ t. t ++ re_lines frn x block (n + 1) rest) (g.spelled ∙ ap (λ c. now.spelled.octets ++ re_lines_of x block n c) is) ∙ append_assoc now.spelled.octets (re_lines_of x block n (content_at frn r)) (re_lines frn x block (n + 1) rest) ∙ spelled;
+        faulty = ap (λ t. t ++ unread_lines frn x block (n + 1) rest) (g.faulty ∙ ap (λ c. now.faulty.octets ++ unread_lines_of x block n c) is) ∙ append_assoc now.faulty.octets (unread_lines_of x block n (content_at frn r)) (unread_lines frn x block (n + 1) rest) ∙ faulty;
       }
 
   pub gathering_goes_on : (n : ℕ) (old now new : ContentLines) (s : Codec × List ℕ) (all left : List (Codec × List ℕ)) → all ≡ s ∷ left → Gathering x frn block codec body n old now all → GathersContent x block n (content_at frn (entries_in (value_in (record_kind_at s.0.nodes s.0.slots) s.1))) now new
@@ -118,8 +118,8 @@ module _ (x : ExpansionTree) (frn block : ℕ) (codec : Codec) (body : List ℕ)
   all_gathered : (n : ℕ) (old now : ContentLines) (left : List (Codec × List ℕ)) → Gathering x frn block codec body n old now left → ((spec : SpecTree) (records : List EntriesTree) → NoFlaw spec → StandsFor codec spec → SpellsBody spec records (bits body) → (so : GoesOn x frn block codec spec n records old now left) → length so.rest ≡ 0)
       → GathersBlock x frn block codec body old now
   all_gathered n old now left h none = record {
-    spelled = λ spec records clean stands spells. let so = h.goes spec records clean stands spells in sym (append-nil now.spelled) ∙ ap (λ rs. now.spelled ++ re_lines frn x block n rs) (sym (no_rest so.rest (none spec records clean stands spells so))) ∙ so.spelled;
-    faulty = λ spec records clean stands spells. let so = h.goes spec records clean stands spells in sym (append-nil now.faulty) ∙ ap (λ rs. now.faulty ++ unread_lines frn x block n rs) (sym (no_rest so.rest (none spec records clean stands spells so))) ∙ so.faulty;
+    spelled = λ spec records clean stands spells. let so = h.goes spec records clean stands spells in sym (append-nil now.spelled.octets) ∙ ap (λ rs. now.spelled.octets ++ re_lines frn x block n rs) (sym (no_rest so.rest (none spec records clean stands spells so))) ∙ so.spelled;
+    faulty = λ spec records clean stands spells. let so = h.goes spec records clean stands spells in sym (append-nil now.faulty.octets) ∙ ap (λ rs. now.faulty.octets ++ unread_lines frn x block n rs) (sym (no_rest so.rest (none spec records clean stands spells so))) ∙ so.faulty;
   }
 
   -- no record is left

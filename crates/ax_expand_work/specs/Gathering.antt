@@ -16,13 +16,13 @@ use Rattle.ax_walk.specs.declared.view.BlockView.{BlockView}
 
 -- the lines of this content come after those before
 pub record GathersContent (x : ExpansionTree) (block n : ℕ) (content : Option (List ℕ)) (old new : ContentLines) : Type 0 where
-  pub spelled : new.spelled ≡ old.spelled ++ re_lines_of x block n content
-  pub faulty : new.faulty ≡ old.faulty ++ unread_lines_of x block n content
+  pub spelled : new.spelled.octets ≡ old.spelled.octets ++ re_lines_of x block n content
+  pub faulty : new.faulty.octets ≡ old.faulty.octets ++ unread_lines_of x block n content
 
 -- so do those of the records that the body spells, for each specification that the codec stands for
 pub record GathersBlock (x : ExpansionTree) (frn block : ℕ) (codec : Codec) (body : List ℕ) (old new : ContentLines) : Type 0 where
-  pub spelled : (spec : SpecTree) (records : List EntriesTree) → NoFlaw spec → StandsFor codec spec → SpellsBody spec records (bits body) → new.spelled ≡ old.spelled ++ re_lines frn x block 0 records
-  pub faulty : (spec : SpecTree) (records : List EntriesTree) → NoFlaw spec → StandsFor codec spec → SpellsBody spec records (bits body) → new.faulty ≡ old.faulty ++ unread_lines frn x block 0 records
+  pub spelled : (spec : SpecTree) (records : List EntriesTree) → NoFlaw spec → StandsFor codec spec → SpellsBody spec records (bits body) → new.spelled.octets ≡ old.spelled.octets ++ re_lines frn x block 0 records
+  pub faulty : (spec : SpecTree) (records : List EntriesTree) → NoFlaw spec → StandsFor codec spec → SpellsBody spec records (bits body) → new.faulty.octets ≡ old.faulty.octets ++ unread_lines frn x block 0 records
 
 -- ---- as the code holds what is expanded
 

@@ -44,7 +44,7 @@ fn cause_text(cause: ContentCause) -> &'static [u8]
 /// Appends a text and a number after it.
 #[tactic(auto, using(crate::proofs::Appended::appending))]
 fn push_numbered(lines: &mut OctetBuffer, front: &[u8], number: u64) -> Result<(), AllocError>
-    ensures { OnOk result (lines.new ≡ lines.old ++ numbered front.now number) }
+    ensures { OnOk result (lines.new.octets ≡ lines.old.octets ++ numbered front.now number) }
 {
     lines.text(front)?;
     lines.decimal(number)
@@ -52,7 +52,7 @@ fn push_numbered(lines: &mut OctetBuffer, front: &[u8], number: u64) -> Result<(
 
 /// Appends a space, the name of a cause and the end of its line.
 fn push_cause(lines: &mut OctetBuffer, cause: ContentCause) -> Result<(), AllocError>
-    ensures { OnOk result (lines.new ≡ lines.old ++ (codes " " ++ (cause_name cause ++ codes "\n"))) }
+    ensures { OnOk result (lines.new.octets ≡ lines.old.octets ++ (codes " " ++ (cause_name cause ++ codes "\n"))) }
 {
     lines.text3(b" ", cause_text(cause), b"\n")
 }
@@ -65,7 +65,7 @@ pub(crate) fn push_unread(
     bit: u32,
     cause: ContentCause,
 ) -> Result<(), AllocError>
-    ensures { OnOk result (lines.new ≡ lines.old ++ unread_line name.block name.number bit cause) }
+    ensures { OnOk result (lines.new.octets ≡ lines.old.octets ++ unread_line name.block name.number bit cause) }
 {
     push_numbered(lines, b"unread block ", name.block)?;
     push_numbered(lines, b" record ", name.number as u64)?;
@@ -108,7 +108,7 @@ fn text_of(
 /// Appends octets in hexadecimal digits, in quotes.
 #[tactic(auto, using(crate::proofs::Appended::appending))]
 fn push_hex(alloc: Global, lines: &mut OctetBuffer, octets: &[u8]) -> Result<(), AllocError>
-    ensures { OnOk result (lines.new ≡ lines.old ++ hex_text (octets_of (bits octets.now))) }
+    ensures { OnOk result (lines.new.octets ≡ lines.old.octets ++ hex_text (octets_of (bits octets.now))) }
 {
     let digits = hex::encode(alloc, octets)?;
     lines.text3(b"\"", digits.as_bytes(), b"\"")?;
@@ -133,7 +133,7 @@ pub(crate) fn push_re(
 ) -> Result<(), AllocError>
     requires shape { Shape (compound (slots_tree expansion.now.slots)) (value_tree content.value) }
     requires canonical { bits content.octets.items ≡ CanonContent expansion.now.form (slots_tree expansion.now.slots) (value_tree content.value) }
-    ensures { OnOk result (lines.new ≡ lines.old ++ re_line (expansion_tree expansion.now) name.block name.number (value_tree content.value)) }
+    ensures { OnOk result (lines.new.octets ≡ lines.old.octets ++ re_line (expansion_tree expansion.now) name.block name.number (value_tree content.value)) }
 {
     let text = text_of(alloc, expansion, content.value)?;
     push_numbered(lines, b"re block ", name.block)?;

@@ -6,6 +6,7 @@ use Rattle.ax_endpoints.specs.Files.{File, octets_of, Exceeds}
 use Rattle.ax_expand.specs.Expansion.{ExpansionTree}
 use Rattle.ax_format.specs.Specification.{SpecTree, spec_of}
 use Rattle.ax_format.specs.declared.flaw.Flaw.{Flaw}
+use Rattle.ax_load.proofs.EndsOnce.{ends_told}
 use Rattle.ax_load.proofs.Passes.{Passed, none_passed, one_passed}
 use Rattle.ax_load.specs.FileAnswers.{largest_file, deepest, HasTokens, IsAcceptedIn, IsRefusedIn}
 use Rattle.ax_load.specs.Languages.{Language, category_files, expansion_files}
@@ -88,8 +89,8 @@ GiveOrEnd distinct files c names =
     ((specs : List SpecTree) × FilesGive distinct (Some files) names specs) ⊎ ((stop : LoadStop) × FilesEnd distinct (Some files) c names stop × (stop ≢ OutOfMemory))
 
 module _ (distinct : Bool) (files : List File) (c : LibraryCounts) (names : List (List ℕ)) where
-  ends : (i : ℕ) (before : List SpecTree) (name : List ℕ) (more : List (List ℕ)) (stop : LoadStop) → Passed distinct (Some files) names i before (name ∷ more) → EndsAtFile distinct (Some files) c before name i stop → stop ≢ OutOfMemory → GiveOrEnd distinct files c names
-  ends i before name more stop p h never = inr (
+  ends : (i : ℕ) (before : List SpecTree) (name : List ℕ) (more : List (List ℕ)) (stop : LoadStop) (t : ℕ) → Passed distinct (Some files) names i before (name ∷ more) 0 t → EndsAtFile distinct (Some files) c before name i stop → stop ≢ OutOfMemory → GiveOrEnd distinct files c names
+  ends i before name more stop t p h never = inr (
     stop,
     record {
       earlier = p.earlier;
@@ -98,26 +99,29 @@ module _ (distinct : Bool) (files : List File) (c : LibraryCounts) (names : List
       split = p.split;
       before = before;
       give = p.give;
-      ends = subst (λ n. EndsAtFile distinct (Some files) c before name n stop) p.counted h;
+      ends = ends_told files c name c.taken _ distinct before (length p.earlier) stop (subst (λ n. EndsAtFile distinct (Some files) c before name n stop) p.counted h);
     },
     never,
   )
 
-  module _ (i : ℕ) (before : List SpecTree) (name : List ℕ) (more : List (List ℕ)) (p : Passed distinct (Some files) names i before (name ∷ more)) (later : (specs : List SpecTree) → Passed distinct (Some files) names (i + 1) specs more → GiveOrEnd distinct files c names) where
+  module _ (i : ℕ) (before : List SpecTree) (name : List ℕ) (more : List (List ℕ)) (t : ℕ) (p : Passed distinct (Some files) names i before (name ∷ more) 0 t) (later : (specs : List SpecTree) (t' : ℕ) → Passed distinct (Some files) names (i + 1) specs more 0 t' → GiveOrEnd distinct files c names) where
+    passed : (spec : SpecTree) → GivesIn category_files (Some files) name spec → (IsTrue distinct → spec_of spec.category before ≡ None) → GiveOrEnd distinct files c names
+    passed spec gives fresh = later (before ++ spec ∷ []) _ (one_passed distinct (Some files) names i before name more spec 0 t _ p (record { gives = gives; number = refl }) fresh)
+
     by_category_of : (spec : SpecTree) → GivesIn category_files (Some files) name spec → (want : Bool) → distinct ≡ want → (found : Option SpecTree) → spec_of spec.category before ≡ found → GiveOrEnd distinct files c names
-    by_category_of spec gives false d found e = later (before ++ spec ∷ []) (one_passed distinct (Some files) names i before name more spec p gives (λ yes. absurd (let never : false ≡ true = sym d ∙ yes in cc)))
-    by_category_of spec gives true d None e = later (before ++ spec ∷ []) (one_passed distinct (Some files) names i before name more spec p gives (λ yes. e))
+    by_category_of spec gives false d found e = passed spec gives (λ yes. absurd (let never : false ≡ true = sym d ∙ yes in cc))
+    by_category_of spec gives true d None e = passed spec gives (λ yes. e)
     by_category_of spec gives true d (Some one) e =
-        ends i before name more (CategoryTwice i spec.category) p
+        ends i before name more (CategoryTwice i spec.category) t p
         (by_category (subst IsTrue (sym d) refl) spec.category refl (record { spec = spec; gives = gives; is = refl; twice = subst (λ o. IsSome o) (sym e) refl })) (λ same. absurd cc)
 
     by_file_given : ((spec : SpecTree) × GivesIn category_files (Some files) name spec) ⊎ ((stop : LoadStop) × StopsAtFile category_files (Some files) c name i stop × (stop ≢ OutOfMemory)) → GiveOrEnd distinct files c names
     by_file_given (inl (spec, gives)) = by_category_of spec gives distinct refl (spec_of spec.category before) refl
-    by_file_given (inr (stop, h, never)) = ends i before name more stop p (by_file h) never
+    by_file_given (inr (stop, h, never)) = ends i before name more stop t p (by_file h) never
 
-  from : (left : List (List ℕ)) (i : ℕ) (before : List SpecTree) → Passed distinct (Some files) names i before left → GiveOrEnd distinct files c names
-  from [] i before p = inl (before, subst (λ n. FilesGive distinct (Some files) n before) (sym (p.split ∙ append-nil p.earlier)) p.give)
-  from (name ∷ more) i before p = by_file_given i before name more p (λ specs q. from more (i + 1) specs q) (gives_or_stops category_files spec_or_bad files c name i)
+  from : (left : List (List ℕ)) (i : ℕ) (before : List SpecTree) (t : ℕ) → Passed distinct (Some files) names i before left 0 t → GiveOrEnd distinct files c names
+  from [] i before t p = inl (before, subst (λ n. FilesGive distinct (Some files) n before) (sym (p.split ∙ append-nil p.earlier)) p.give)
+  from (name ∷ more) i before t p = by_file_given i before name more t p (λ specs t' q. from more (i + 1) specs t' q) (gives_or_stops category_files spec_or_bad files c name i)
 
   pub give_or_end : GiveOrEnd distinct files c names
-  give_or_end = from names 0 [] (none_passed distinct (Some files) names)
+  give_or_end = from names 0 [] 0 (none_passed distinct (Some files) names 0)

@@ -24,6 +24,7 @@ pub mod KeyFates
 pub mod KindsRead
 pub mod LineAnswersThere
 pub mod LinedThere
+pub mod LoadsTaken
 pub mod NumbersRead
 pub mod OneAnswer
 pub mod PathPlaces

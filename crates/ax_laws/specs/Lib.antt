@@ -5,5 +5,6 @@ pub mod ExpandedExamples
 pub mod FilterExamples
 pub mod KeyFates
 pub mod LineExamples
+pub mod Loads
 pub mod MemberPlaces
 pub mod TextExamples

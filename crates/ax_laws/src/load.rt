@@ -1,15 +1,17 @@
 //! The laws of category files and of expansion files. Each function stands for what its contract says.
 
-ghost use Rattle.std.specs.Prelude.{◌≡◌, ◌≢◌, ℕ, ◌⊎◌, Bool, List, Some};
+ghost use Rattle.std.specs.Prelude.{◌≡◌, ◌≢◌, ℕ, ◌⊎◌, Bool, List, Some, None};
 ghost use Rattle.ax_load.specs.declared.fault.LoadStop.{LoadStop};
-ghost use Rattle.ax_load.specs.declared.fault.LoadStop.TheVariants.{OutOfMemory};
+ghost use Rattle.ax_load.specs.declared.fault.LoadStop.TheVariants.{OutOfMemory, SpecRefused};
 ghost use Rattle.ax_load.specs.declared.fault.SpecFault.{SpecFault};
+ghost use Rattle.ax_load.specs.declared.fault.SpecFault.TheVariants.{TooLarge};
 ghost use Rattle.ax_expand.specs.Expansion.{ExpansionTree};
 ghost use Rattle.ax_load.specs.FileAnswers.{IsAccepted, IsRefused, IsAcceptedIn, IsRefusedIn};
 ghost use Rattle.ax_load.specs.Languages.{expansion_files};
 ghost use Rattle.ax_endpoints.specs.Changes.{LibraryCounts};
 ghost use Rattle.ax_load.specs.Loading.{FilesGive, FilesEnd};
 ghost use Rattle.ax_format.specs.Specification.{SpecTree};
+ghost use Rattle.ax_laws.specs.Loads.{TakesTooMany};
 ghost use Rattle.ax_endpoints.specs.Files.{File};
 ghost use Rattle.ax_endpoints.specs.Told.{Rose};
 
@@ -58,4 +60,11 @@ pub fn files_give_or_end()
     ensures { (distinct : Bool) (files : List File) (c : LibraryCounts) (names : List (List ℕ)) →
         ((catalogue : List SpecTree) × FilesGive distinct (Some files) names catalogue)
         ⊎ ((outcome : LoadStop) × FilesEnd distinct (Some files) c names outcome × (outcome ≢ OutOfMemory)) }
+{}
+
+/// Of a library that doesn't tell its files: where the file of number n is too large, the n loads before it gave accepted files, and
+/// the octets that were taken beyond those of these files are more than 1,048,576. So they aren't those of all loads together.
+pub fn too_large_by_its_own_load()
+    ensures { (distinct : Bool) (c : LibraryCounts) (names : List (List ℕ)) (n : ℕ) → FilesEnd distinct None c names (SpecRefused n TooLarge)
+        → TakesTooMany c n }
 {}

@@ -34,8 +34,8 @@ fn list_body(
 ) -> Result<(), DecodeError>
     requires no_flaw { NoFlaw (spec_tree table.now.items) }
     requires mask { IsMaskOf (record_slot_list (spec_tree table.now.items)) table.now.mask }
-    requires empty { lister.old.out ≡ [] }
-    ensures ok { OnOk result (ListsBlock (spec_tree table.now.items) block.entry octets count lister.new.out) }
+    requires empty { lister.old.out.octets ≡ [] }
+    ensures ok { OnOk result (ListsBlock (spec_tree table.now.items) block.entry octets count lister.new.out.octets) }
     ensures err { IfErr result (IsFaultOf (IsBodyFault (spec_tree table.now.items) block.entry.raw.now.body.now)) }
     ensures small { octets < 4294967296 }
 {
@@ -58,7 +58,7 @@ fn list_read(
     requires mask { IsMaskOf (record_slot_list (spec_tree table.now.items)) table.now.mask }
     requires stands { StandsFor codec.now (spec_tree table.now.items) }
     requires category { block.raw.now.category ≡ table.now.items.category }
-    ensures octets { OnOk result (IsReadListed (spec_tree table.now.items) block.entry room.new.lister.out) }
+    ensures octets { OnOk result (IsReadListed (spec_tree table.now.items) block.entry room.new.lister.out.octets) }
     ensures stop { IfErr result (NothingMadeRead (spec_tree table.now.items) (raw_tree block.entry.raw.now)) }
 {
     room.lister.clear();
@@ -86,7 +86,7 @@ pub(crate) fn list_block(
 ) -> Result<(), BlockStop>
     requires sound { StandForEach codecs.now.codecs (catalogue_tree catalogue.now) }
     requires tables { tables.now ≡ catalogue.now }
-    ensures octets { OnOk result (IsListed (catalogue_tree catalogue.now) block.entry.number (raw_tree block.entry.raw.now) room.new.lister.out) }
+    ensures octets { OnOk result (IsListed (catalogue_tree catalogue.now) block.entry.number (raw_tree block.entry.raw.now) room.new.lister.out.octets) }
     ensures stop { IfErr result (NothingMade (catalogue_tree catalogue.now) (raw_tree block.entry.raw.now)) }
     ensures short { IfErr result IsWithinBody }
 {

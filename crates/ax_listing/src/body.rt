@@ -31,7 +31,7 @@ pub fn show_records(
     requires mask { IsMaskOf (record_slot_list (spec_tree items.now)) mask.now }
     requires body { length body.now ≤ longest_body }
     requires some { 1 ≤ length body.now }
-    ensures ok { OnOk result (ShowsRecords (spec_tree items.now) body.now lister.old.out lister.new.out) }
+    ensures ok { OnOk result (ShowsRecords (spec_tree items.now) body.now lister.old.out.octets lister.new.out.octets) }
     ensures err { IfErr result (IsFaultOf (IsBodyFault (spec_tree items.now) body.now)) }
 {
     let masked = MaskedItems { items, mask };

@@ -30,7 +30,7 @@ fn show_element(
     from: BitPosition<'_>,
     path: &LinePath,
 ) -> Result<u32, FixedStop>
-    ensures lines { OnOk result (ShowsElement element.entry (under path.now name.now) from.entry lister.old.out lister.new.out) }
+    ensures lines { OnOk result (ShowsElement element.entry (under path.now name.now) from.entry lister.old.out.octets lister.new.out.octets) }
     ensures end { IfOk result (IsBitAfter from.entry element.entry.width) }
     ensures stop { IfErr result (IsStopped from.entry element.entry.width) }
 {
@@ -55,7 +55,7 @@ fn show_wide_element(
     path: &LinePath,
 ) -> Result<(), AllocError>
     requires within { from.at + element.width ≤ 8 * length from.body.now }
-    ensures lines { OnOk result (ShowsElement element.entry (under path.now name.now) from.entry lister.old.out lister.new.out) }
+    ensures lines { OnOk result (ShowsElement element.entry (under path.now name.now) from.entry lister.old.out.octets lister.new.out.octets) }
 {
     let mut inner = lister.blank_path();
     set_named(&mut inner, path, name)?;
@@ -73,7 +73,7 @@ fn show_short(
     path: &LinePath,
 ) -> Result<u32, FixedStop>
     requires width { IsWidth short.now.width }
-    ensures lines { OnOk result (ShowsShort short.now path.now from.entry lister.old.out lister.new.out) }
+    ensures lines { OnOk result (ShowsShort short.now path.now from.entry lister.old.out.octets lister.new.out.octets) }
     ensures end { IfOk result (IsBitAfter from.entry short.now.width) }
     ensures stop { IfErr result (IsStopped from.entry short.now.width) }
 {
@@ -94,7 +94,7 @@ fn show_wide_spare(
 ) -> Result<(), AllocError>
     requires width { IsWidth width }
     requires within { from.at + width ≤ 8 * length from.body.now }
-    ensures lines { OnOk result (ShowsSpare width path.now from.entry lister.old.out lister.new.out) }
+    ensures lines { OnOk result (ShowsSpare width path.now from.entry lister.old.out.octets lister.new.out.octets) }
 {
     lister.wide_spare_under(wide_number_at(from, width), path)
 }
@@ -109,7 +109,7 @@ pub(crate) fn show_fixed(
 ) -> Result<u32, FixedStop>
     requires bounds { FixedInBounds (held_fixed fixed.now) }
     requires listable { FixedListable (held_fixed fixed.now) }
-    ensures lines { OnOk result (ShowsFixed (held_fixed fixed.now) path.now from.entry lister.old.out lister.new.out) }
+    ensures lines { OnOk result (ShowsFixed (held_fixed fixed.now) path.now from.entry lister.old.out.octets lister.new.out.octets) }
     ensures end { IfOk result (IsBitAfter from.entry (width (held_fixed fixed.now))) }
     ensures stop { IfErr result (IsStopped from.entry (width (held_fixed fixed.now))) }
 {
@@ -141,7 +141,7 @@ pub(crate) fn show_members(
 ) -> Result<u32, FixedStop>
     requires bounds { MembersInBounds (held_members members.now) }
     requires listable { MembersListable (held_members members.now) }
-    ensures lines { OnOk result (ShowsMembers (held_members members.now) path.now from.entry lister.old.out lister.new.out) }
+    ensures lines { OnOk result (ShowsMembers (held_members members.now) path.now from.entry lister.old.out.octets lister.new.out.octets) }
     ensures end { IfOk result (IsBitAfter from.entry (members_width (held_members members.now))) }
     ensures stop { IfErr result (IsStopped from.entry (members_width (held_members members.now))) }
 {
@@ -166,7 +166,7 @@ fn show_member(
 ) -> Result<u32, FixedStop>
     requires bounds { MemberInBounds (held_member member.now) }
     requires listable { MemberListable (held_member member.now) }
-    ensures lines { OnOk result (ShowsMember (held_member member.now) path.now from.entry lister.old.out lister.new.out) }
+    ensures lines { OnOk result (ShowsMember (held_member member.now) path.now from.entry lister.old.out.octets lister.new.out.octets) }
     ensures end { IfOk result (IsBitAfter from.entry (member_width (held_member member.now))) }
     ensures stop { IfErr result (IsStopped from.entry (member_width (held_member member.now))) }
 {
@@ -198,7 +198,7 @@ pub(crate) fn show_named(
 ) -> Result<u32, FixedStop>
     requires bounds { FixedInBounds (held_fixed fixed.now) }
     requires listable { FixedListable (held_fixed fixed.now) }
-    ensures lines { OnOk result (ShowsFixed (held_fixed fixed.now) (under path.now name.now) from.entry lister.old.out lister.new.out) }
+    ensures lines { OnOk result (ShowsFixed (held_fixed fixed.now) (under path.now name.now) from.entry lister.old.out.octets lister.new.out.octets) }
     ensures end { IfOk result (IsBitAfter from.entry (width (held_fixed fixed.now))) }
     ensures stop { IfErr result (IsStopped from.entry (width (held_fixed fixed.now))) }
 {
@@ -227,7 +227,7 @@ fn show_group(
 ) -> Result<u32, FixedStop>
     requires bounds { MembersInBounds (held_members members.now) }
     requires listable { MembersListable (held_members members.now) }
-    ensures lines { OnOk result (ShowsMembers (held_members members.now) (under path.now name.now) from.entry lister.old.out lister.new.out) }
+    ensures lines { OnOk result (ShowsMembers (held_members members.now) (under path.now name.now) from.entry lister.old.out.octets lister.new.out.octets) }
     ensures end { IfOk result (IsBitAfter from.entry (members_width (held_members members.now))) }
     ensures stop { IfErr result (IsStopped from.entry (members_width (held_members members.now))) }
 {

@@ -28,7 +28,7 @@ pub(crate) fn show_value(
 ) -> Result<u32, DecodeError>
     requires bounds { InBounds (held_kind kind.now) }
     requires listable { KindListable (held_kind kind.now) }
-    ensures ok { IfOk result (λ end. ShowsFrom (held_kind kind.now) path.now from.entry end lister.old.out lister.new.out) }
+    ensures ok { IfOk result (λ end. ShowsFrom (held_kind kind.now) path.now from.entry end lister.old.out.octets lister.new.out.octets) }
     ensures err { IfErr result (FailsFrom (held_kind kind.now) from.entry) }
 {
     match kind {
@@ -51,7 +51,7 @@ fn show_explicit(
     path: &LinePath,
 ) -> Result<u32, DecodeError>
     requires bounds { InBounds (Tree.explicit) }
-    ensures ok { IfOk result (λ end. ShowsFrom Tree.explicit path.now from.entry end lister.old.out lister.new.out) }
+    ensures ok { IfOk result (λ end. ShowsFrom Tree.explicit path.now from.entry end lister.old.out.octets lister.new.out.octets) }
     ensures err { IfErr result (FailsFrom (Tree.explicit) from.entry) }
 {
     let content = explicit_content(from.body, from.at)?;
@@ -71,7 +71,7 @@ fn show_counted(
 ) -> Result<u32, DecodeError>
     requires bounds { InBounds (Tree.counted size (held_kind inner.now)) }
     requires listable { KindListable (held_kind inner.now) }
-    ensures ok { IfOk result (λ end. ShowsFrom (Tree.counted size (held_kind inner.now)) path.now from.entry end lister.old.out lister.new.out) }
+    ensures ok { IfOk result (λ end. ShowsFrom (Tree.counted size (held_kind inner.now)) path.now from.entry end lister.old.out.octets lister.new.out.octets) }
     ensures err { IfErr result (FailsFrom (Tree.counted size (held_kind inner.now)) from.entry) }
 {
     lister.none_of(b"occurrences", path)?;
@@ -93,7 +93,7 @@ fn show_each(
 ) -> Result<(u32, u32), DecodeError>
     requires bounds { InBounds (Tree.counted size (held_kind inner.now)) }
     requires listable { KindListable (held_kind inner.now) }
-    ensures ok { IfOk result (λ r. ShowsRepeated (Tree.counted size (held_kind inner.now)) path.now from.entry r.0 lister.old.out lister.new.out r.1) }
+    ensures ok { IfOk result (λ r. ShowsRepeated (Tree.counted size (held_kind inner.now)) path.now from.entry r.0 lister.old.out.octets lister.new.out.octets r.1) }
     ensures err { IfErr result (FailsFrom (Tree.counted size (held_kind inner.now)) from.entry) }
 {
     let count = counter_at(from.body, from.at, size)?;
@@ -121,7 +121,7 @@ fn show_compound(
 ) -> Result<u32, DecodeError>
     requires bounds { InBounds (Tree.compound (held_slots slots.now)) }
     requires listable { SlotsListable (held_slots slots.now) }
-    ensures ok { IfOk result (λ end. ShowsFrom (Tree.compound (held_slots slots.now)) path.now from.entry end lister.old.out lister.new.out) }
+    ensures ok { IfOk result (λ end. ShowsFrom (Tree.compound (held_slots slots.now)) path.now from.entry end lister.old.out.octets lister.new.out.octets) }
     ensures err { IfErr result (FailsFrom (Tree.compound (held_slots slots.now)) from.entry) }
 {
     lister.none_of(b"subitems", path)?;
@@ -142,7 +142,7 @@ fn show_subitems(
 ) -> Result<(u32, u32), DecodeError>
     requires bounds { InBounds (Tree.compound (held_slots slots.now)) }
     requires listable { SlotsListable (held_slots slots.now) }
-    ensures ok { IfOk result (λ r. ShowsSubitems (held_slots slots.now) path.now from.entry r.0 lister.old.out lister.new.out r.1) }
+    ensures ok { IfOk result (λ r. ShowsSubitems (held_slots slots.now) path.now from.entry r.0 lister.old.out.octets lister.new.out.octets r.1) }
     ensures err { IfErr result (FailsFrom (Tree.compound (held_slots slots.now)) from.entry) }
 {
     let all = slots.as_slice();
@@ -171,7 +171,7 @@ pub(crate) fn show_slot(
 ) -> Result<u32, DecodeError>
     requires bounds { SlotInBounds (held_slot slot.now) }
     requires listable { SlotListable (held_slot slot.now) }
-    ensures ok { IfOk result (λ end. IsSlotShown (held_slot slot.now) path.now from.entry.body.now from.entry.at end lister.old.out lister.new.out) }
+    ensures ok { IfOk result (λ end. IsSlotShown (held_slot slot.now) path.now from.entry.body.now from.entry.at end lister.old.out.octets lister.new.out.octets) }
     ensures err { IfErr result (HasSlotFailed (held_slot slot.now) from.entry.body.now from.entry.at) }
 {
     match slot {
@@ -196,7 +196,7 @@ fn show_under(
 ) -> Result<u32, DecodeError>
     requires bounds { InBounds (held_kind kind.now) }
     requires listable { KindListable (held_kind kind.now) }
-    ensures ok { IfOk result (λ end. ShowsUnder (held_kind kind.now) path.now name.now from.entry end lister.old.out lister.new.out) }
+    ensures ok { IfOk result (λ end. ShowsUnder (held_kind kind.now) path.now name.now from.entry end lister.old.out.octets lister.new.out.octets) }
     ensures err { IfErr result (FailsFrom (held_kind kind.now) from.entry) }
 {
     if let HeldKind::Fixed(fixed) = kind {

@@ -30,7 +30,7 @@ pub(crate) fn show_record(
     requires listable { SlotsListable (record_slots (spec_tree items.items.now)) }
     requires mask { IsMaskOf (record_slot_list (spec_tree items.items.now)) items.mask.now }
     requires path { path.now ≡ three_digits items.items.now.category }
-    ensures ok { IfOk result (λ end. ShowsRecord (spec_tree items.entry.items.now) number from.entry end lister.old.out lister.new.out) }
+    ensures ok { IfOk result (λ end. ShowsRecord (spec_tree items.entry.items.now) number from.entry end lister.old.out.octets lister.new.out.octets) }
     ensures err { IfErr result (FailsFrom (record_kind (spec_tree items.entry.items.now)) from.entry) }
 {
     lister.record_front(number)?;
@@ -49,7 +49,7 @@ fn show_items(
     requires spec { NoFlaw (spec_tree items.items.now) }
     requires listable { SlotsListable (record_slots (spec_tree items.items.now)) }
     requires mask { IsMaskOf (record_slot_list (spec_tree items.items.now)) items.mask.now }
-    ensures ok { IfOk result (λ end. ShowsItems (spec_tree items.entry.items.now) path.now from.entry end lister.old.out lister.new.out) }
+    ensures ok { IfOk result (λ end. ShowsItems (spec_tree items.entry.items.now) path.now from.entry end lister.old.out.octets lister.new.out.octets) }
     ensures err { IfErr result (FailsFrom (record_kind (spec_tree items.entry.items.now)) from.entry) }
 {
     let slots = items.items.slots();

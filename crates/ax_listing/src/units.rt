@@ -31,7 +31,7 @@ pub(crate) fn show_alone(
 ) -> Result<u32, DecodeError>
     requires bounds { InBounds (Tree.fixed (held_fixed fixed.now)) }
     requires listable { FixedListable (held_fixed fixed.now) }
-    ensures ok { IfOk result (λ end. ShowsFrom (Tree.fixed (held_fixed fixed.now)) path.now from.entry end lister.old.out lister.new.out) }
+    ensures ok { IfOk result (λ end. ShowsFrom (Tree.fixed (held_fixed fixed.now)) path.now from.entry end lister.old.out.octets lister.new.out.octets) }
     ensures err { IfErr result (FailsFrom (Tree.fixed (held_fixed fixed.now)) from.entry) }
 {
     let bits = BitPosition {
@@ -55,7 +55,7 @@ pub(crate) fn show_single(
 ) -> Result<u32, DecodeError>
     requires bounds { InBounds (Tree.fixed (held_fixed fixed.now)) }
     requires listable { FixedListable (held_fixed fixed.now) }
-    ensures ok { IfOk result (λ end. ShowsUnder (Tree.fixed (held_fixed fixed.now)) path.now name.now from.entry end lister.old.out lister.new.out) }
+    ensures ok { IfOk result (λ end. ShowsUnder (Tree.fixed (held_fixed fixed.now)) path.now name.now from.entry end lister.old.out.octets lister.new.out.octets) }
     ensures err { IfErr result (FailsFrom (Tree.fixed (held_fixed fixed.now)) from.entry) }
 {
     let bits = BitPosition {
@@ -80,7 +80,7 @@ fn show_parts(
 ) -> Result<(u32, u32), DecodeError>
     requires bounds { InBounds (Tree.extended last (map held_part parts.now)) }
     requires listable { AllByRecursion MembersListable (map held_part parts.now) }
-    ensures ok { IfOk result (λ r. ShowsParts last (map held_part parts.now) path.now from.entry r.0 lister.old.out lister.new.out r.1) }
+    ensures ok { IfOk result (λ r. ShowsParts last (map held_part parts.now) path.now from.entry r.0 lister.old.out.octets lister.new.out.octets r.1) }
     ensures err { IfErr result (FailsFrom (Tree.extended last (map held_part parts.now)) from.entry) }
 {
     let mut left = PartsLeft::of(last, parts.as_slice(), from.body, from.at);
@@ -109,7 +109,7 @@ pub(crate) fn show_extended(
 ) -> Result<u32, DecodeError>
     requires bounds { InBounds (Tree.extended last (map held_part parts.now)) }
     requires listable { AllByRecursion MembersListable (map held_part parts.now) }
-    ensures ok { IfOk result (λ end. ShowsFrom (Tree.extended last (map held_part parts.now)) path.now from.entry end lister.old.out lister.new.out) }
+    ensures ok { IfOk result (λ end. ShowsFrom (Tree.extended last (map held_part parts.now)) path.now from.entry end lister.old.out.octets lister.new.out.octets) }
     ensures err { IfErr result (FailsFrom (Tree.extended last (map held_part parts.now)) from.entry) }
 {
     lister.none_of(b"parts", path)?;
@@ -130,7 +130,7 @@ fn show_occurrence(
 ) -> Result<u32, FixedStop>
     requires bounds { FixedInBounds (held_fixed fixed.now) }
     requires listable { FixedListable (held_fixed fixed.now) }
-    ensures lines { OnOk result (ShowsFixed (held_fixed fixed.now) (occurrence path.now number) from.entry lister.old.out lister.new.out) }
+    ensures lines { OnOk result (ShowsFixed (held_fixed fixed.now) (occurrence path.now number) from.entry lister.old.out.octets lister.new.out.octets) }
     ensures end { IfOk result (IsBitAfter from.entry (width (held_fixed fixed.now))) }
     ensures stop { IfErr result (IsStopped from.entry (width (held_fixed fixed.now))) }
 {
@@ -150,7 +150,7 @@ fn show_run(
 ) -> Result<(u32, u32), DecodeError>
     requires bounds { InBounds (Tree.by_fx (held_fixed fixed.now)) }
     requires listable { FixedListable (held_fixed fixed.now) }
-    ensures ok { IfOk result (λ r. ShowsRepeated (Tree.by_fx (held_fixed fixed.now)) path.now from.entry r.0 lister.old.out lister.new.out r.1) }
+    ensures ok { IfOk result (λ r. ShowsRepeated (Tree.by_fx (held_fixed fixed.now)) path.now from.entry r.0 lister.old.out.octets lister.new.out.octets r.1) }
     ensures err { IfErr result (FailsFrom (Tree.by_fx (held_fixed fixed.now)) from.entry) }
 {
     let mut here = from.at;
@@ -183,7 +183,7 @@ pub(crate) fn show_by_fx(
 ) -> Result<u32, DecodeError>
     requires bounds { InBounds (Tree.by_fx (held_fixed fixed.now)) }
     requires listable { FixedListable (held_fixed fixed.now) }
-    ensures ok { IfOk result (λ end. ShowsFrom (Tree.by_fx (held_fixed fixed.now)) path.now from.entry end lister.old.out lister.new.out) }
+    ensures ok { IfOk result (λ end. ShowsFrom (Tree.by_fx (held_fixed fixed.now)) path.now from.entry end lister.old.out.octets lister.new.out.octets) }
     ensures err { IfErr result (FailsFrom (Tree.by_fx (held_fixed fixed.now)) from.entry) }
 {
     lister.none_of(b"occurrences", path)?;

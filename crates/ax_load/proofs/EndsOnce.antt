@@ -11,7 +11,7 @@ use Rattle.ax_load.specs.declared.fault.SpecFault.TheVariants.{TooLarge, BadByte
 use Rattle.ax_load.specs.FileAnswers.{IsFlawedIn, IsRefusedIn, largest_file}
 use Rattle.ax_load.specs.Languages.{Language, category_files}
 use Rattle.ax_endpoints.specs.Changes.{LibraryCounts}
-use Rattle.ax_load.specs.Loading.{GivesSpec, IsRefusedFile, StopsAtFile, EachGives, AreNewAfter, HasCategoryTwice, EndsAtFile, by_file, by_category, FilesEnd}
+use Rattle.ax_load.specs.Loading.{GivesSpec, IsRefusedFile, StopsAtFile, EachGives, AreNewAfter, HasCategoryTwice, EndsAtFile, by_file, by_category, FilesEnd, from_load}
 use Rattle.ax_load.proofs.FilesOnce.{IsOne, category_files_are_one, same_tokens, same_tree, same_octets, spec_given_once, given_stops_for_memory, none_is_none}
 
 -- ---- one file's octets
@@ -123,11 +123,30 @@ ends_on distinct files c i before (n ∷ earlier) (s ∷ specs) name more outcom
           (subst (λ x. EndsAtFile distinct (Some files) c x name (i + length (n ∷ earlier)) outcome) (sym (append_assoc before (s ∷ []) specs)) ends)),
     )
 
+-- of a library that tells its files, what was taken before a load doesn't matter
+module _ (files : List File) (c : LibraryCounts) (name : List ℕ) (t u : ℕ) where
+  refused_told : {T : Type 0} (language : Language T) (fault : SpecFault) → IsRefusedFile language (Some files) (from_load c t) name fault → IsRefusedFile language (Some files) (from_load c u) name fault
+  refused_told language TooLarge h = h
+  refused_told language (BadByte at) h = h
+  refused_told language (TooDeep token) h = h
+  refused_told language (BadToken token) h = h
+  refused_told language (Flawed flaws) h = h
+
+  pub stops_told : {T : Type 0} (language : Language T) (i : ℕ) (stop : LoadStop) → StopsAtFile language (Some files) (from_load c t) name i stop → StopsAtFile language (Some files) (from_load c u) name i stop
+  stops_told language i (LoadStopOf.LoadFault n) h = h
+  stops_told language i (LoadStopOf.SpecRefused n fault) h = (h.0, refused_told language fault h.1)
+  stops_told language i (LoadStopOf.CategoryTwice n category) h = h
+  stops_told language i LoadStopOf.OutOfMemory h = h
+
+  pub ends_told : (distinct : Bool) (before : List SpecTree) (i : ℕ) (stop : LoadStop) → EndsAtFile distinct (Some files) (from_load c t) before name i stop → EndsAtFile distinct (Some files) (from_load c u) before name i stop
+  ends_told distinct before i stop (by_file h) = by_file (stops_told category_files i stop h)
+  ends_told distinct before i stop (by_category want category is twice) = by_category want category is twice
+
 ends_from_the_start : (distinct : Bool) (files : List File) (c : LibraryCounts) (names : List (List ℕ)) (outcome : LoadStop) → FilesEnd distinct (Some files) c names outcome → EndOn distinct files c 0 [] names outcome
 ends_from_the_start distinct files c names outcome h =
     let e : 0 + length h.earlier ≡ length h.earlier = omega arith in
     subst (λ n. EndOn distinct files c 0 [] n outcome) (sym h.split)
-    (ends_on distinct files c 0 [] h.earlier h.before h.name h.more outcome h.give.each h.give.categories (subst (λ k. EndsAtFile distinct (Some files) c h.before h.name k outcome) (sym e) h.ends))
+    (ends_on distinct files c 0 [] h.earlier h.before h.name h.more outcome h.give.each h.give.categories (subst (λ k. EndsAtFile distinct (Some files) c h.before h.name k outcome) (sym e) (ends_told files c h.name _ c.taken distinct h.before (length h.earlier) outcome h.ends)))
 
 given_ends_not : (distinct : Bool) (files : List File) (c : LibraryCounts) (before : List SpecTree) (name : List ℕ) (i : ℕ) (spec : SpecTree) (outcome : LoadStop) → (Rose c.faults c.faults' → ⊥) → outcome ≢ LoadStopOf.OutOfMemory → GivesSpec (Some files) name spec → (IsTrue distinct → spec_of spec.category before ≡ None)
     → EndsAtFile distinct (Some files) c before name i outcome → ⊥

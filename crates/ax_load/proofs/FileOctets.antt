@@ -1,6 +1,6 @@
 -- A file that gives no octets.
 use Rattle.std.proofs.Common.{◌≡◌, ℕ, ◌⊎◌, inl, inr, List, [], Option, IsSome}
-use Rattle.ax_load.proofs.FileLemmas.{gives_spec, refused_file, took_one, took_none, took_refused}
+use Rattle.ax_load.proofs.FileLemmas.{loads_spec, refused_file, took_one, took_none, took_refused}
 use Rattle.ax_load.specs.Counting.{TookFiles, TookAt}
 use Rattle.ax_load.specs.Languages.{Language, category_files}
 use Rattle.ax_load.specs.Loading.{HasNoOctets, StopsAtFile}
@@ -35,4 +35,4 @@ no_octets_took files c name i t t' (CategoryTwice n category) h kept = absurd h
 pub no_file : (files : Option (List File)) (c : LibraryCounts) (name : List ℕ) (i : ℕ) (stop : LoadStop) → HasNoOctets files c name i stop → StopsAtFile category_files files c name i stop
 no_file = no_octets_stop category_files
 
-pub ruleset file_ends = (gives_spec, refused_file, took_one, took_refused, no_file, no_octets_took)
+pub ruleset file_ends = (loads_spec, refused_file, took_one, took_refused, no_file, no_octets_took)

@@ -9,8 +9,9 @@ use Rattle.ax_format.specs.Specification.{spec_of}
 use Rattle.ax_format.specs.declared.spec.Spec.{Spec}
 use Rattle.ax_endpoints.specs.Changes.{LibraryCounts}
 use Rattle.ax_load.specs.Languages.{category_files}
-use Rattle.ax_load.specs.Loading.{GivesSpec, StopsAtFile, EndsAtFile, FilesEnd, by_file, by_category}
+use Rattle.ax_load.specs.Loading.{GivesSpec, LoadsIn, StopsAtFile, from_load, taken_by, EndsAtFile, FilesEnd, by_file, by_category}
 use Rattle.std.proofs.Math.Seq.{take-length}
+use Rattle.ax_load.proofs.TwoFiles.{counts, stops_from}
 use Rattle.ax_load.proofs.TakenFiles.{take_more, took_nothing, through, stop_took, adding_took}
 use Rattle.ax_load.specs.Adding.{stop_of_adding}
 use Rattle.ax_load.specs.Counting.{TookFiles, TookAt, TookThrough}
@@ -20,7 +21,7 @@ use Rattle.ax_load.specs.declared.fault.LoadStop.TheVariants.{CategoryTwice, Out
 
 -- the first i files gave the catalogue, and these names are left
 pub record Loaded (distinct : Bool) (files files' : Option (List File)) (names left : List (List ℕ)) (i file : ℕ) (catalogue : List Spec) (f f' t t' : ℕ) : Type 0 where
-  pub pass : Passed distinct files names i (catalogue_tree catalogue) left
+  pub pass : Passed distinct files names i (catalogue_tree catalogue) left t t'
   pub number : file ≡ i
   pub keeps : files' ≡ files
   pub faults : f ≤ f'
@@ -31,7 +32,7 @@ pub record Loaded (distinct : Bool) (files files' : Option (List File)) (names l
 
 pub none_loaded : (distinct : Bool) (files : Option (List File)) (names : List (List ℕ)) (catalogue : List Spec) (f t : ℕ) → catalogue ≡ [] → Loaded distinct files files names names 0 0 catalogue f f t t
 none_loaded distinct files names catalogue f t is = record {
-  pass = subst (λ s. Passed distinct files names 0 (catalogue_tree s) names) (sym is) (none_passed distinct files names);
+  pass = subst (λ s. Passed distinct files names 0 (catalogue_tree s) names t t) (sym is) (none_passed distinct files names t);
   number = refl;
   keeps = refl;
   faults = omega arith;
@@ -56,11 +57,11 @@ tree_after [] one = refl
 tree_after (s ∷ more) one = ap (λ t. spec_tree s ∷ t) (tree_after more one)
 
 pub one_loaded : (distinct : Bool) (files files' files'' : Option (List File)) (names left : List (List ℕ)) (name : List ℕ) (more : List (List ℕ)) (i file : ℕ) (catalogue new : List Spec) (one : Spec) (f f' f'' t t' t'' : ℕ)
-    → Loaded distinct files files' names left i file catalogue f f' t t' → left ≡ name ∷ more → GivesSpec files' name (spec_tree one) → (IsTrue distinct → spec_of one.category (catalogue_tree catalogue) ≡ None)
+    → Loaded distinct files files' names left i file catalogue f f' t t' → left ≡ name ∷ more → LoadsIn category_files files' t' t'' name (spec_tree one) → (IsTrue distinct → spec_of one.category (catalogue_tree catalogue) ≡ None)
     → new ≡ catalogue ++ one ∷ [] → files'' ≡ files' → f' ≤ f'' → t' ≤ t'' → f'' ≡ f' → TookFiles files' t' t'' (name ∷ []) → Loaded distinct files files'' names more (i + 1) (file + 1) new f f'' t t''
-one_loaded distinct files files' files'' names left name more i file catalogue new one f f' f'' t t' t'' l is gives none new_is same lf lt still took = record {
-  pass = subst (λ s. Passed distinct files names (i + 1) s more) (sym (ap catalogue_tree new_is ∙ tree_after catalogue one))
-      (one_passed distinct files names i (catalogue_tree catalogue) name more (spec_tree one) (subst (λ x. Passed distinct files names i (catalogue_tree catalogue) x) is l.pass) (subst (λ x. GivesSpec x name (spec_tree one)) l.keeps gives) none);
+one_loaded distinct files files' files'' names left name more i file catalogue new one f f' f'' t t' t'' l is loads none new_is same lf lt still took = record {
+  pass = subst (λ s. Passed distinct files names (i + 1) s more t t'') (sym (ap catalogue_tree new_is ∙ tree_after catalogue one))
+      (one_passed distinct files names i (catalogue_tree catalogue) name more (spec_tree one) t t' t'' (subst (λ x. Passed distinct files names i (catalogue_tree catalogue) x t t') is l.pass) (subst (λ x. LoadsIn category_files x t' t'' name (spec_tree one)) l.keeps loads) none);
   number = ap (λ n. n + 1) l.number;
   keeps = same ∙ l.keeps;
   faults = let a = l.faults in omega arith;
@@ -86,36 +87,43 @@ pub all_took : (files : Option (List File)) (names : List (List ℕ)) (i t t' : 
 all_took files names i t t' is h = subst (TookFiles files t t') (ap (λ n. take n names) is ∙ take-length names) h
 
 -- the file after those that passed ends the run
-pub ends_there : (distinct : Bool) (files files' : Option (List File)) (c : LibraryCounts) (names left : List (List ℕ)) (name : List ℕ) (more : List (List ℕ)) (i file : ℕ) (catalogue : List Spec) (f f' t t' : ℕ) (outcome : LoadStop)
-    → Loaded distinct files files' names left i file catalogue f f' t t' → left ≡ name ∷ more → EndsAtFile distinct files c (catalogue_tree catalogue) name file outcome → FilesEnd distinct files c names outcome
-ends_there distinct files files' c names left name more i file catalogue f f' t t' outcome l is ends = record {
+pub ends_there : (distinct : Bool) (files files' : Option (List File)) (names left : List (List ℕ)) (name : List ℕ) (more : List (List ℕ)) (i file : ℕ) (catalogue : List Spec) (f f' f'' t t' t'' : ℕ) (outcome : LoadStop)
+    → Loaded distinct files files' names left i file catalogue f f' t t' → left ≡ name ∷ more → EndsAtFile distinct files (counts f f'' t' t'') (catalogue_tree catalogue) name file outcome → FilesEnd distinct files (counts f f'' t t'') names outcome
+ends_there distinct files files' names left name more i file catalogue f f' f'' t t' t'' outcome l is ends = record {
   earlier = l.pass.earlier;
   name = name;
   more = more;
   split = l.pass.split ∙ ap (λ x. l.pass.earlier ++ x) is;
   before = catalogue_tree catalogue;
   give = l.pass.give;
-  ends = subst (λ n. EndsAtFile distinct files c (catalogue_tree catalogue) name n outcome) (l.number ∙ l.pass.counted) ends;
+  ends = subst (λ n. EndsAtFile distinct files (counts f f'' n t'') (catalogue_tree catalogue) name (length l.pass.earlier) outcome) l.pass.taken
+      (subst (λ n. EndsAtFile distinct files (counts f f'' t' t'') (catalogue_tree catalogue) name n outcome) (l.number ∙ l.pass.counted) ends);
 }
 
-twice_ends : (distinct : Bool) (files files' : Option (List File)) (c : LibraryCounts) (names left : List (List ℕ)) (name : List ℕ) (more : List (List ℕ)) (i file : ℕ) (catalogue : List Spec) (one : Spec) (category f f' t t' : ℕ)
+-- by itself
+pub file_ends_there : (distinct : Bool) (files files' : Option (List File)) (names left : List (List ℕ)) (name : List ℕ) (more : List (List ℕ)) (i file : ℕ) (catalogue : List Spec) (f f' f'' t t' t'' : ℕ) (outcome : LoadStop)
+    → Loaded distinct files files' names left i file catalogue f f' t t' → left ≡ name ∷ more → StopsAtFile category_files files' (counts f' f'' t' t'') name file outcome → FilesEnd distinct files (counts f f'' t t'') names outcome
+file_ends_there distinct files files' names left name more i file catalogue f f' f'' t t' t'' outcome l is h =
+    ends_there distinct files files' names left name more i file catalogue f f' f'' t t' t'' outcome l is (by_file (stops_from category_files files files' name file outcome f f' f'' t' t' t'' l.keeps l.faults refl h))
+
+twice_ends : (distinct : Bool) (files files' : Option (List File)) (names left : List (List ℕ)) (name : List ℕ) (more : List (List ℕ)) (i file : ℕ) (catalogue : List Spec) (one : Spec) (category f f' f'' t t' t'' : ℕ)
     → Loaded distinct files files' names left i file catalogue f f' t t' → left ≡ name ∷ more → GivesSpec files' name (spec_tree one) → category ≡ one.category
-    → IsTrue distinct → IsSome (spec_of one.category (catalogue_tree catalogue)) → FilesEnd distinct files c names (CategoryTwice file category)
-twice_ends distinct files files' c names left name more i file catalogue one category f f' t t' l is gives same want twice =
-    ends_there distinct files files' c names left name more i file catalogue f f' t t' (CategoryTwice file category) l is (by_category want category refl (record {
+    → IsTrue distinct → IsSome (spec_of one.category (catalogue_tree catalogue)) → FilesEnd distinct files (counts f f'' t t'') names (CategoryTwice file category)
+twice_ends distinct files files' names left name more i file catalogue one category f f' f'' t t' t'' l is gives same want twice =
+    ends_there distinct files files' names left name more i file catalogue f f' f'' t t' t'' (CategoryTwice file category) l is (by_category want category refl (record {
       spec = spec_tree one;
       gives = subst (λ x. GivesSpec x name (spec_tree one)) l.keeps gives;
       is = same;
       twice = subst (λ x. IsSome (spec_of x (catalogue_tree catalogue))) (sym same) twice;
     }))
 
-memory_ends : (distinct : Bool) (files files' : Option (List File)) (c : LibraryCounts) (names left : List (List ℕ)) (name : List ℕ) (more : List (List ℕ)) (i file : ℕ) (catalogue : List Spec) (f f' t t' : ℕ)
-    → Loaded distinct files files' names left i file catalogue f f' t t' → left ≡ name ∷ more → FilesEnd distinct files c names OutOfMemory
-memory_ends distinct files files' c names left name more i file catalogue f f' t t' l is = ends_there distinct files files' c names left name more i file catalogue f f' t t' OutOfMemory l is (by_file tt)
+memory_ends : (distinct : Bool) (files files' : Option (List File)) (names left : List (List ℕ)) (name : List ℕ) (more : List (List ℕ)) (i file : ℕ) (catalogue : List Spec) (f f' f'' t t' t'' : ℕ)
+    → Loaded distinct files files' names left i file catalogue f f' t t' → left ≡ name ∷ more → FilesEnd distinct files (counts f f'' t t'') names OutOfMemory
+memory_ends distinct files files' names left name more i file catalogue f f' f'' t t' t'' l is = ends_there distinct files files' names left name more i file catalogue f f' f'' t t' t'' OutOfMemory l is (by_file tt)
 
-pub adding_ends : (distinct : Bool) (files files' : Option (List File)) (c : LibraryCounts) (names left : List (List ℕ)) (name : List ℕ) (more : List (List ℕ)) (i file : ℕ) (catalogue : List Spec) (one : Spec) (f f' t t' : ℕ) (error : AddError) (outcome : LoadStop)
-    → Loaded distinct files files' names left i file catalogue f f' t t' → left ≡ name ∷ more → GivesSpec files' name (spec_tree one) → IsTrue distinct → WhyRefused catalogue one error → outcome ≡ stop_of_adding file error → FilesEnd distinct files c names outcome
-adding_ends distinct files files' c names left name more i file catalogue one f f' t t' (AddErrorOf.CategoryTwice category) outcome l is gives want why same =
-    subst (λ x. FilesEnd distinct files c names x) (sym same) (twice_ends distinct files files' c names left name more i file catalogue one category f f' t t' l is gives why.0 want why.1)
-adding_ends distinct files files' c names left name more i file catalogue one f f' t t' AddErrorOf.OutOfMemory outcome l is gives want why same =
-    subst (λ x. FilesEnd distinct files c names x) (sym same) (memory_ends distinct files files' c names left name more i file catalogue f f' t t' l is)
+pub adding_ends : (distinct : Bool) (files files' : Option (List File)) (names left : List (List ℕ)) (name : List ℕ) (more : List (List ℕ)) (i file : ℕ) (catalogue : List Spec) (one : Spec) (f f' f'' t t' t'' : ℕ) (error : AddError) (outcome : LoadStop)
+    → Loaded distinct files files' names left i file catalogue f f' t t' → left ≡ name ∷ more → GivesSpec files' name (spec_tree one) → IsTrue distinct → WhyRefused catalogue one error → outcome ≡ stop_of_adding file error → FilesEnd distinct files (counts f f'' t t'') names outcome
+adding_ends distinct files files' names left name more i file catalogue one f f' f'' t t' t'' (AddErrorOf.CategoryTwice category) outcome l is gives want why same =
+    subst (λ x. FilesEnd distinct files (counts f f'' t t'') names x) (sym same) (twice_ends distinct files files' names left name more i file catalogue one category f f' f'' t t' t'' l is gives why.0 want why.1)
+adding_ends distinct files files' names left name more i file catalogue one f f' f'' t t' t'' AddErrorOf.OutOfMemory outcome l is gives want why same =
+    subst (λ x. FilesEnd distinct files (counts f f'' t t'') names x) (sym same) (memory_ends distinct files files' names left name more i file catalogue f f' f'' t t' t'' l is)

@@ -15,7 +15,7 @@ use Rattle.ax_load.specs.declared.fault.SpecFault.TheVariants.{TooLarge, BadByte
 use Rattle.ax_load.specs.FileAnswers.{HasTokens, IsAcceptedIn, IsRefusedIn, largest_file}
 use Rattle.ax_load.specs.Languages.{Language, category_files}
 use Rattle.ax_endpoints.specs.Changes.{LibraryCounts}
-use Rattle.ax_load.specs.Loading.{GivesIn, GivesSpec, IsRefusedFile, IsRefusedOctets, StopsAtFile, EachGives, AreNewAfter, HasCategoryTwice, EndsAtFile, by_file, by_category, FilesGive, FilesEnd}
+use Rattle.ax_load.specs.Loading.{GivesIn, GivesSpec, IsRefusedFile, IsRefusedOctets, StopsAtFile, EachGives, AreNewAfter, HasCategoryTwice, EndsAtFile, by_file, by_category, FilesGive, FilesEnd, from_load, taken_by}
 
 -- ---- one file
 
@@ -148,5 +148,5 @@ ends_for_memory distinct files c before name more i catalogue outcome quiet (by_
 -- where the files give a catalogue and no fault of the library is counted, only want of memory ends the run at a file
 pub given_ends_for_memory : (distinct : Bool) (files : List File) (c : LibraryCounts) (names : List (List ℕ)) (catalogue : List SpecTree) (outcome : LoadStop) → (Rose c.faults c.faults' → ⊥) → FilesGive distinct (Some files) names catalogue → FilesEnd distinct (Some files) c names outcome → outcome ≡ LoadStopOf.OutOfMemory
 given_ends_for_memory distinct files c names catalogue outcome quiet h k =
-    ends_for_memory distinct files c k.before k.name k.more (length k.earlier) catalogue outcome quiet k.ends
+    ends_for_memory distinct files (from_load c (taken_by (Some files) k.earlier k.before k.give.each c.taken)) k.before k.name k.more (length k.earlier) catalogue outcome quiet k.ends
     (up_to_there distinct files [] k.earlier k.before (k.name ∷ k.more) catalogue k.give.each (subst (λ n. GiveOn distinct files [] n catalogue) k.split (from_the_start distinct files names catalogue h)))

@@ -3,7 +3,7 @@ use Rattle.std.specs.Prelude.{◌≡◌, ℕ, ◌⊎◌, List, [], ◌∷◌, �
 use Rattle.ax_endpoints.specs.Files.{File, HoldsFile, Lacks, TooMany}
 use Rattle.ax_endpoints.specs.Changes.{LibraryCounts, library_counts}
 use Rattle.ax_endpoints.specs.declared.libraries.Library as LibraryOf
-use Rattle.ax_endpoints.specs.Told.{Rose}
+use Rattle.ax_endpoints.specs.Told.{Rose, number_after}
 use Rattle.ax_format.specs.Specification.{SpecTree, spec_of}
 use Rattle.ax_load.specs.Counting.{TookThrough}
 use Rattle.ax_load.specs.FileAnswers.{largest_file, IsAcceptedIn, IsRefusedIn}
@@ -22,12 +22,27 @@ pub record GivesIn {T : Type 0} (language : Language T) (files : Option (List Fi
 abbrev pub GivesSpec : Option (List File) → List ℕ → SpecTree → Type 0
 GivesSpec files name spec = GivesIn category_files files name spec
 
+-- one load gave the octets of such a file, and the number of octets taken rose by them
+pub record LoadsIn {T : Type 0} (language : Language T) (files : Option (List File)) (taken taken' : ℕ) (name : List ℕ) (tree : T) : Type 0 where
+  pub gives : GivesIn language files name tree
+  pub number : taken' ≡ number_after taken (length gives.octets)
+
 -- each file in turn gives its specification
 abbrev pub EachGives : Option (List File) → List (List ℕ) → List SpecTree → Type 0
 EachGives files [] [] = Unit {0}
 EachGives files [] (spec ∷ specs) = ⊥
 EachGives files (name ∷ names) [] = ⊥
 EachGives files (name ∷ names) (spec ∷ specs) = GivesSpec files name spec × EachGives files names specs
+
+-- the number of octets taken once these files gave their octets, each once, from that number on
+abbrev pub taken_by : (files : Option (List File)) (names : List (List ℕ)) (specs : List SpecTree) → EachGives files names specs → ℕ → ℕ
+taken_by files [] specs each taken = taken
+taken_by files (name ∷ names) [] each taken = taken
+taken_by files (name ∷ names) (spec ∷ specs) each taken = taken_by files names specs each.1 (number_after taken (length each.0.octets))
+
+-- what is counted from the load on before which so many octets were taken
+abbrev pub from_load : LibraryCounts → ℕ → LibraryCounts
+from_load c taken = record { faults = c.faults; faults' = c.faults'; taken = taken; taken' = c.taken' }
 
 -- none of these specifications has the category of one before it
 abbrev pub AreNewAfter : List SpecTree → List SpecTree → Type 0
@@ -79,7 +94,7 @@ pub data EndsAtFile (distinct : Bool) (files : Option (List File)) (c : LibraryC
   by_file : StopsAtFile category_files files c name i outcome → EndsAtFile distinct files c before name i outcome
   by_category : IsTrue distinct → (category : ℕ) → outcome ≡ CategoryTwice i category → HasCategoryTwice files before name category → EndsAtFile distinct files c before name i outcome
 
--- the files before one give specifications, and that one ends the run so
+-- the files before one give specifications, and that one ends the run so: too large by what its own load took
 pub record FilesEnd (distinct : Bool) (files : Option (List File)) (c : LibraryCounts) (names : List (List ℕ)) (outcome : LoadStop) : Type 0 where
   pub earlier : List (List ℕ)
   pub name : List ℕ
@@ -87,14 +102,15 @@ pub record FilesEnd (distinct : Bool) (files : Option (List File)) (c : LibraryC
   pub split : names ≡ earlier ++ (name ∷ more)
   pub before : List SpecTree
   pub give : FilesGive distinct files earlier before
-  pub ends : EndsAtFile distinct files c before name (length earlier) outcome
+  pub ends : EndsAtFile distinct files (from_load c (taken_by files earlier before give.each c.taken)) before name (length earlier) outcome
 
 -- ---- a category file and an expansion file
 
 -- the category file ends the run; or it gives a specification, and the expansion file, which is the second one, ends the run
 pub data EitherEnds (files : Option (List File)) (c : LibraryCounts) (name expansion : List ℕ) (outcome : LoadStop) : Type 0 where
   first : FilesEnd false files c (name ∷ []) outcome → EitherEnds files c name expansion outcome
-  second : (spec : SpecTree) → FilesGive false files (name ∷ []) (spec ∷ []) → StopsAtFile expansion_files files c expansion 1 outcome → EitherEnds files c name expansion outcome
+  second : (spec : SpecTree) (give : FilesGive false files (name ∷ []) (spec ∷ [])) → StopsAtFile expansion_files files (from_load c (taken_by files (name ∷ []) (spec ∷ []) give.each c.taken)) expansion 1 outcome
+      → EitherEnds files c name expansion outcome
 
 -- ---- of a library that is told before and after
 

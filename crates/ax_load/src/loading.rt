@@ -8,7 +8,7 @@ ghost use Rattle.ax_endpoints.specs.Files.{HoldsFile};
 ghost use Rattle.ax_endpoints.specs.Told.{number_after};
 ghost use Rattle.ax_load.specs.Languages.{category_files};
 ghost use Rattle.ax_load.specs.FileAnswers.{largest_file};
-ghost use Rattle.ax_load.specs.Loading.{GivesSpec, HasNoOctets, StopsHere, OneStops, TookUpTo, FilesGive, FilesEnd};
+ghost use Rattle.ax_load.specs.Loading.{LoadsIn, HasNoOctets, StopsHere, OneStops, TookUpTo, FilesGive, FilesEnd};
 
 use crate::fault::{LoadStop, SpecFault};
 use crate::files::{FileStop, LARGEST_FILE, read_file};
@@ -56,7 +56,7 @@ pub fn load_file<L: Library>(
     name: &str,
     file: u32,
 ) -> Result<Accepted, LoadStop>
-    ensures gives { IfOk result (λ accepted. GivesSpec (L.files library.old) name.now (spec_tree accepted)) }
+    ensures loads { IfOk result (λ accepted. LoadsIn category_files (L.files library.old) (L.taken library.old) (L.taken library.new) name.now (spec_tree accepted)) }
     ensures stops { IfErr result (λ stop. StopsHere L.Library library.old library.new category_files name.now file stop) }
     ensures keeps { L.files library.new ≡ L.files library.old }
     ensures number_never_falls { L.taken library.old ≤ L.taken library.new }

@@ -1,5 +1,6 @@
 //! Octets, as they are appended.
 ghost use Rattle.std.specs.Prelude.{◌≡◌, ◌+◌, ◌<◌, ◌≤◌, ◌^◌, [], ◌∷◌, ◌++◌, length, take, set, codes, decimal, OnOk, IsTrue, ◌↔◌};
+ghost use Rattle.ax_octets.specs.Buffers.{RoomIsFor};
 
 use crate::digits::place_decimal;
 use crate::literal::Literal;
@@ -26,11 +27,12 @@ impl Drop for OctetBuffer {
 }
 
 impl Model for OctetBuffer {
-    ghost use Rattle.std.specs.Prelude.{List, ℕ, ◌≤◌, length, take};
+    ghost use Rattle.std.specs.Prelude.{◌≤◌, length, take};
+    ghost use Rattle.ax_octets.specs.Buffers.{Buffered};
 
-    ghost Value = { List ℕ };
+    ghost Value = { Buffered };
 
-    ghost view = { λ o. take o.filled o.area.items };
+    ghost view = { λ o. record { octets = take o.filled o.area.items; room = length o.area.items } };
 
     ghost invariant = { λ o. o.filled ≤ length o.area.items };
 }
@@ -38,7 +40,8 @@ impl Model for OctetBuffer {
 impl OctetBuffer {
     /// No octets. Takes no memory.
     pub fn new(alloc: Global) -> OctetBuffer
-        ensures { result ≡ [] }
+        ensures none { result.octets ≡ [] }
+        ensures room { result.room ≡ 0 }
     {
         OctetBuffer {
             area: Vec::new(alloc),
@@ -48,30 +51,22 @@ impl OctetBuffer {
 
     /// The octets.
     pub fn as_slice(&self) -> &[u8]
-        ensures { result.now ≡ self.now }
+        ensures { result.now ≡ self.now.octets }
     {
         &self.area[..self.filled]
     }
 
     /// How many octets there are.
     pub fn len(&self) -> usize
-        ensures { result ≡ length self.now }
+        ensures { result ≡ length self.now.octets }
     {
         self.filled
     }
 
-    /// The octets, in a vector.
-    pub fn into_vec(self) -> Vec<u8>
-        ensures { result.items ≡ self }
-    {
-        let OctetBuffer { mut area, filled } = self;
-        area.truncate(filled);
-        area
-    }
-
     /// Keeps the first `count` octets.
     pub fn truncate(&mut self, count: usize)
-        ensures { self.new ≡ take count self.old }
+        ensures kept { self.new.octets ≡ take count self.old.octets }
+        ensures room { self.new.room ≡ self.old.room }
     {
         if count < self.filled {
             self.filled = count;
@@ -80,7 +75,8 @@ impl OctetBuffer {
 
     /// Takes all octets away.
     pub fn clear(&mut self)
-        ensures { self.new ≡ [] }
+        ensures none { self.new.octets ≡ [] }
+        ensures room { self.new.room ≡ self.old.room }
     {
         self.filled = 0;
     }
@@ -88,7 +84,8 @@ impl OctetBuffer {
     /// Appends one octet. Err is want of memory, and then they stay.
     #[inline(always)]
     pub fn octet(&mut self, octet: u8) -> Result<(), AllocError>
-        ensures { OnOk result (self.new ≡ self.old ++ octet ∷ []) }
+        ensures appended { OnOk result (self.new.octets ≡ self.old.octets ++ octet ∷ []) }
+        ensures room { OnOk result (RoomIsFor self.old self.new) }
     {
         if self.filled >= self.area.len() {
             return self.text_in_more(&[octet]);
@@ -100,7 +97,8 @@ impl OctetBuffer {
     /// Appends a text. Err is want of memory, and then they stay.
     #[inline(always)]
     pub fn text(&mut self, text: &[u8]) -> Result<(), AllocError>
-        ensures { OnOk result (self.new ≡ self.old ++ text.now) }
+        ensures appended { OnOk result (self.new.octets ≡ self.old.octets ++ text.now) }
+        ensures room { OnOk result (RoomIsFor self.old self.new) }
     {
         if text.len() > self.area.len() - self.filled {
             return self.text_in_more(text);
@@ -112,7 +110,8 @@ impl OctetBuffer {
     /// Appends three texts, where there is room for all.
     #[inline(always)]
     pub fn text3(&mut self, a: &[u8], b: &[u8], c: &[u8]) -> Result<(), AllocError>
-        ensures { OnOk result (self.new ≡ self.old ++ (a.now ++ (b.now ++ c.now))) }
+        ensures appended { OnOk result (self.new.octets ≡ self.old.octets ++ (a.now ++ (b.now ++ c.now))) }
+        ensures room { OnOk result (RoomIsFor self.old self.new) }
     {
         let room = self.area.len() - self.filled;
         if !three_fit(room, a.len(), b.len(), c.len()) {
@@ -128,43 +127,19 @@ impl OctetBuffer {
     #[cold]
     #[inline(never)]
     fn each3(&mut self, a: &[u8], b: &[u8], c: &[u8]) -> Result<(), AllocError>
-        ensures { OnOk result (self.new ≡ self.old ++ (a.now ++ (b.now ++ c.now))) }
+        ensures appended { OnOk result (self.new.octets ≡ self.old.octets ++ (a.now ++ (b.now ++ c.now))) }
+        ensures room { OnOk result (RoomIsFor self.old self.new) }
     {
         self.text(a)?;
         self.text(b)?;
         self.text(c)
     }
 
-    /// Appends four texts, where there is room for all.
-    #[inline(always)]
-    pub fn text4(&mut self, a: &[u8], b: &[u8], c: &[u8], d: &[u8]) -> Result<(), AllocError>
-        ensures { OnOk result (self.new ≡ self.old ++ (a.now ++ (b.now ++ (c.now ++ d.now)))) }
-    {
-        let room = self.area.len() - self.filled;
-        if !four_fit(room, a.len(), b.len(), c.len(), d.len()) {
-            return self.each4(a, b, c, d);
-        }
-        let area = self.area.as_mut_slice();
-        let at = place_text(area, self.filled, a);
-        let at = place_text(area, at, b);
-        let at = place_text(area, at, c);
-        self.filled = place_text(area, at, d);
-        Ok(())
-    }
-
-    #[cold]
-    #[inline(never)]
-    fn each4(&mut self, a: &[u8], b: &[u8], c: &[u8], d: &[u8]) -> Result<(), AllocError>
-        ensures { OnOk result (self.new ≡ self.old ++ (a.now ++ (b.now ++ (c.now ++ d.now)))) }
-    {
-        self.text(a)?;
-        self.text3(b, c, d)
-    }
-
     /// Appends a number in decimal. Err is want of memory, and then they stay.
     #[inline(always)]
     pub fn decimal(&mut self, number: u64) -> Result<(), AllocError>
-        ensures { OnOk result (self.new ≡ self.old ++ decimal number) }
+        ensures appended { OnOk result (self.new.octets ≡ self.old.octets ++ decimal number) }
+        ensures room { OnOk result (RoomIsFor self.old self.new) }
     {
         make_room(&mut self.area, self.filled, 20)?;
         self.filled = place_decimal(self.area.as_mut_slice(), self.filled, number);
@@ -174,7 +149,8 @@ impl OctetBuffer {
     /// Appends two numbers in decimal with an octet between.
     #[inline(always)]
     pub fn decimals(&mut self, first: u64, between: u8, second: u64) -> Result<(), AllocError>
-        ensures { OnOk result (self.new ≡ self.old ++ (decimal first ++ between ∷ decimal second)) }
+        ensures appended { OnOk result (self.new.octets ≡ self.old.octets ++ (decimal first ++ between ∷ decimal second)) }
+        ensures room { OnOk result (RoomIsFor self.old self.new) }
     {
         make_room(&mut self.area, self.filled, 41)?;
         let area = self.area.as_mut_slice();
@@ -187,7 +163,8 @@ impl OctetBuffer {
     /// Appends a path.
     #[inline(always)]
     pub fn path(&mut self, path: &LinePath) -> Result<(), AllocError>
-        ensures { OnOk result (self.new ≡ self.old ++ path.now) }
+        ensures appended { OnOk result (self.new.octets ≡ self.old.octets ++ path.now) }
+        ensures room { OnOk result (RoomIsFor self.old self.new) }
     {
         if path.count > 32 || !path.rest.is_empty() {
             return self.long_path(path);
@@ -205,7 +182,8 @@ impl OctetBuffer {
     #[cold]
     #[inline(never)]
     fn long_path(&mut self, path: &LinePath) -> Result<(), AllocError>
-        ensures { OnOk result (self.new ≡ self.old ++ path.now) }
+        ensures appended { OnOk result (self.new.octets ≡ self.old.octets ++ path.now) }
+        ensures room { OnOk result (RoomIsFor self.old self.new) }
     {
         self.text(&path.front[..path.count])?;
         self.text(&path.rest)
@@ -214,7 +192,8 @@ impl OctetBuffer {
     /// Appends a path and a literal.
     #[inline(always)]
     pub fn path_and_literal(&mut self, path: &LinePath, literal: &Literal) -> Result<(), AllocError>
-        ensures { OnOk result (self.new ≡ self.old ++ (path.now ++ literal.now)) }
+        ensures appended { OnOk result (self.new.octets ≡ self.old.octets ++ (path.now ++ literal.now)) }
+        ensures room { OnOk result (RoomIsFor self.old self.new) }
     {
         if path.count > 32 || !path.rest.is_empty() {
             return self.path_and_literal_in_turn(path, literal);
@@ -233,7 +212,8 @@ impl OctetBuffer {
         path: &LinePath,
         literal: &Literal,
     ) -> Result<(), AllocError>
-        ensures { OnOk result (self.new ≡ self.old ++ (path.now ++ literal.now)) }
+        ensures appended { OnOk result (self.new.octets ≡ self.old.octets ++ (path.now ++ literal.now)) }
+        ensures room { OnOk result (RoomIsFor self.old self.new) }
     {
         self.long_path(path)?;
         self.text(&literal.octets[..literal.count])
@@ -242,7 +222,8 @@ impl OctetBuffer {
     /// Appends a number in decimal and a literal.
     #[inline(always)]
     pub fn number_and_literal(&mut self, number: u64, literal: &Literal) -> Result<(), AllocError>
-        ensures { OnOk result (self.new ≡ self.old ++ (decimal number ++ literal.now)) }
+        ensures appended { OnOk result (self.new.octets ≡ self.old.octets ++ (decimal number ++ literal.now)) }
+        ensures room { OnOk result (RoomIsFor self.old self.new) }
     {
         make_room(&mut self.area, self.filled, 84)?;
         let area = self.area.as_mut_slice();
@@ -261,7 +242,8 @@ impl OctetBuffer {
         number: u64,
     ) -> Result<(), AllocError>
         requires name { (16 ≤ length name.now) × (count ≤ 16) }
-        ensures { OnOk result (self.new ≡ self.old ++ (path.now ++ (codes "/" ++ (take count name.now ++ (codes " = " ++ decimal number))))) }
+        ensures appended { OnOk result (self.new.octets ≡ self.old.octets ++ (path.now ++ (codes "/" ++ (take count name.now ++ (codes " = " ++ decimal number))))) }
+        ensures room { OnOk result (RoomIsFor self.old self.new) }
     {
         if path.count > 32 || !path.rest.is_empty() {
             return self.named_number_in_turn(path, name, count, number);
@@ -286,7 +268,8 @@ impl OctetBuffer {
         number: u64,
     ) -> Result<(), AllocError>
         requires name { (16 ≤ length name.now) × (count ≤ 16) }
-        ensures { OnOk result (self.new ≡ self.old ++ (path.now ++ (codes "/" ++ (take count name.now ++ (codes " = " ++ decimal number))))) }
+        ensures appended { OnOk result (self.new.octets ≡ self.old.octets ++ (path.now ++ (codes "/" ++ (take count name.now ++ (codes " = " ++ decimal number))))) }
+        ensures room { OnOk result (RoomIsFor self.old self.new) }
     {
         self.long_path(path)?;
         self.text3(b"/", &name[..count], b" = ")?;
@@ -295,8 +278,9 @@ impl OctetBuffer {
 
     /// Writes octet number `at` again, from 0.
     pub fn replace(&mut self, at: usize, octet: u8)
-        requires { at < length self.old }
-        ensures { self.new ≡ set self.old at octet }
+        requires { at < length self.old.octets }
+        ensures replaced { self.new.octets ≡ set self.old.octets at octet }
+        ensures room { self.new.room ≡ self.old.room }
     {
         self.area[at] = octet;
     }
@@ -305,7 +289,9 @@ impl OctetBuffer {
     #[cold]
     #[inline(never)]
     fn text_in_more(&mut self, text: &[u8]) -> Result<(), AllocError>
-        ensures { OnOk result (self.new ≡ self.old ++ text.now) }
+        requires { self.old.room < length self.old.octets + length text.now }
+        ensures appended { OnOk result (self.new.octets ≡ self.old.octets ++ text.now) }
+        ensures room { OnOk result (RoomIsFor self.old self.new) }
     {
         lengthen(&mut self.area, text.len())?;
         self.filled = place_text(self.area.as_mut_slice(), self.filled, text);
@@ -319,12 +305,4 @@ fn three_fit(room: usize, a: usize, b: usize, c: usize) -> bool
     ensures { IsTrue result ↔ a + b + c ≤ room }
 {
     a <= room && b <= room - a && c <= room - a - b
-}
-
-/// Whether there is room for four texts of these lengths.
-#[inline(always)]
-fn four_fit(room: usize, a: usize, b: usize, c: usize, d: usize) -> bool
-    ensures { IsTrue result ↔ a + b + c + d ≤ room }
-{
-    a <= room && three_fit(room - a, b, c, d)
 }

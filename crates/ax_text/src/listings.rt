@@ -36,7 +36,7 @@ fn list_block(
 ) -> Result<(), AllocError>
     requires no_flaw { HasNoFlaw spec.now }
     requires fits { BlockFits spec.now block.now }
-    ensures { OnOk result (lister.new.out ≡ lister.old.out ++ ShowText (spec_tree spec.now) (block_tree block.now) number) }
+    ensures { OnOk result (lister.new.out.octets ≡ lister.old.out.octets ++ ShowText (spec_tree spec.now) (block_tree block.now) number) }
 {
     match block {
         Block::Read { category, records } => {

@@ -25,4 +25,4 @@ PutsTexts onto old new = Puts after_spaces onto old.out.items new.out.items
 
 -- these lines were put on a listing
 abbrev pub PutsLines : (Texts → Texts) → Lister → Lister → Type 0
-PutsLines onto old new = Puts as_lines onto old.out new.out
+PutsLines onto old new = Puts as_lines onto old.out.octets new.out.octets

@@ -41,7 +41,8 @@ impl Drop for Lister {
 impl Lister {
     /// An empty listing. Takes no memory.
     pub fn new(alloc: Global) -> Lister
-        ensures { result.out ≡ [] }
+        ensures none { result.out.octets ≡ [] }
+        ensures room { result.out.room ≡ 0 }
     {
         Lister {
             alloc,
@@ -59,42 +60,43 @@ impl Lister {
 
     /// The listing.
     pub fn listing(&self) -> &[u8]
-        ensures { result.now ≡ self.now.out }
+        ensures { result.now ≡ self.now.out.octets }
     {
         self.out.as_slice()
     }
 
     /// The octets of the listing.
     pub fn len(&self) -> usize
-        ensures { result ≡ length self.now.out }
+        ensures { result ≡ length self.now.out.octets }
     {
         self.out.len()
     }
 
-    /// Takes all lines away. The memory is kept.
+    /// Takes all lines away. The room stays.
     pub fn clear(&mut self)
-        ensures { self.new.out ≡ [] }
+        ensures none { self.new.out.octets ≡ [] }
+        ensures room { self.new.out.room ≡ self.old.out.room }
     {
         self.out.clear();
     }
 
     #[inline(always)]
     pub(crate) fn octets(&mut self, text: &[u8]) -> Result<(), AllocError>
-        ensures { OnOk result (self.new.out ≡ self.old.out ++ text.now) }
+        ensures { OnOk result (self.new.out.octets ≡ self.old.out.octets ++ text.now) }
     {
         self.out.text(text)
     }
 
     #[inline(always)]
     pub(crate) fn octet(&mut self, octet: u8) -> Result<(), AllocError>
-        ensures { OnOk result (self.new.out ≡ self.old.out ++ octet ∷ []) }
+        ensures { OnOk result (self.new.out.octets ≡ self.old.out.octets ++ octet ∷ []) }
     {
         self.out.octet(octet)
     }
 
     /// A number in decimal. Those of 64 bits are divided by themselves, which is faster.
     pub(crate) fn decimal(&mut self, number: u128) -> Result<(), AllocError>
-        ensures { OnOk result (self.new.out ≡ self.old.out ++ decimal number) }
+        ensures { OnOk result (self.new.out.octets ≡ self.old.out.octets ++ decimal number) }
     {
         if number <= u128::from(u64::MAX) {
             return self.out.decimal(number as u64);
@@ -104,7 +106,7 @@ impl Lister {
     }
 
     pub(crate) fn signed(&mut self, number: i128) -> Result<(), AllocError>
-        ensures { OnOk result (self.new.out ≡ self.old.out ++ signed_decimal number) }
+        ensures { OnOk result (self.new.out.octets ≡ self.old.out.octets ++ signed_decimal number) }
     {
         let mut buffer = Buffer::new();
         if i128::from(i64::MIN) <= number && number <= i128::from(i64::MAX) {
@@ -117,7 +119,7 @@ impl Lister {
     /// A text in quotes, after a space.
     #[tactic(auto, using(crate::proofs::Pieces::pieces))]
     pub(crate) fn quoted(&mut self, text: &[u8]) -> Result<(), AllocError>
-        ensures { OnOk result (self.new.out ≡ self.old.out ++ (codes " " ++ quoted text.now)) }
+        ensures { OnOk result (self.new.out.octets ≡ self.old.out.octets ++ (codes " " ++ quoted text.now)) }
     {
         self.out.text3(b" \"", text, b"\"")
     }
@@ -125,7 +127,7 @@ impl Lister {
     /// Octets in hexadecimal digits, in quotes.
     #[tactic(auto, using(crate::proofs::Pieces::pieces))]
     pub(crate) fn hex(&mut self, octets: &[u8]) -> Result<(), AllocError>
-        ensures { OnOk result (self.new.out ≡ self.old.out ++ hex_text octets.now) }
+        ensures { OnOk result (self.new.out.octets ≡ self.old.out.octets ++ hex_text octets.now) }
     {
         let digits = hex::encode(self.alloc, octets)?;
         self.out.text3(b"\"", digits.as_bytes(), b"\"")
@@ -172,8 +174,8 @@ impl Lister {
 
     /// Puts a count in place of the 0 of the count line that ends at `end`.
     pub fn set_count(&mut self, end: usize, count: u32) -> Result<(), AllocError>
-        requires { (2 ≤ end) × (end ≤ length self.old.out) }
-        ensures { OnOk result (self.new.out ≡ take (end - 2) self.old.out ++ (decimal count ++ drop (end - 1) self.old.out)) }
+        requires { (2 ≤ end) × (end ≤ length self.old.out.octets) }
+        ensures { OnOk result (self.new.out.octets ≡ take (end - 2) self.old.out.octets ++ (decimal count ++ drop (end - 1) self.old.out.octets)) }
     {
         if count < 10 {
             self.out.replace(end - 2, b'0' + count as u8);
@@ -220,7 +222,7 @@ impl Lister {
         number: u64,
         place: &NamedPlace<'_>,
     ) -> Result<(), AllocError>
-        ensures { OnOk result (self.new.out ≡ self.old.out ++ number_line (place_path place.now) number) }
+        ensures { OnOk result (self.new.out.octets ≡ self.old.out.octets ++ number_line (place_path place.now) number) }
     {
         let name = place.name;
         self.out
@@ -230,7 +232,7 @@ impl Lister {
     /// Puts a path and a literal after it.
     #[inline(always)]
     pub fn literal_under(&mut self, literal: &Literal, path: &LinePath) -> Result<(), AllocError>
-        ensures { OnOk result (self.new.out ≡ self.old.out ++ (path.now ++ literal.now)) }
+        ensures { OnOk result (self.new.out.octets ≡ self.old.out.octets ++ (path.now ++ literal.now)) }
     {
         self.out.path_and_literal(path, literal)
     }

@@ -30,7 +30,7 @@ impl Lister {
     /// Puts the end of the line of a quantity: what comes after the numerator of its fraction.
     #[tactic(auto, using(crate::proofs::QuantityLines::ends))]
     pub fn put_fraction_end(&mut self, den: u64, unit: &[u8]) -> Result<(), AllocError>
-        ensures { OnOk result (self.new.out ≡ self.old.out ++ fraction_end unit.now den) }
+        ensures { OnOk result (self.new.out.octets ≡ self.old.out.octets ++ fraction_end unit.now den) }
     {
         self.octet(b'/')?;
         self.decimal(u128::from(den))?;
@@ -69,7 +69,7 @@ impl Lister {
         requires width { IsWidth width }
         requires content { ContentListable width (Quantity held.now.scale.now) }
         requires fits { number < 2 ^ width }
-        ensures { OnOk result (self.new.out ≡ self.old.out ++ in_unit held.now.scale.now.unit (scaled_text held.now.scale.now width number)) }
+        ensures { OnOk result (self.new.out.octets ≡ self.old.out.octets ++ in_unit held.now.scale.now.unit (scaled_text held.now.scale.now width number)) }
     {
         match held.scale.sign {
             Sign::Unsigned => self.fraction_line(number, held),
@@ -89,7 +89,7 @@ impl Lister {
     #[tactic(auto, using(crate::proofs::QuantityLines::lines))]
     fn fraction_line(&mut self, times: u64, held: &HeldScale<'_>) -> Result<(), AllocError>
         requires den { 0 < held.now.scale.now.den }
-        ensures { OnOk result (self.new.out ≡ self.old.out ++ times_scale held.now.scale.now times) }
+        ensures { OnOk result (self.new.out.octets ≡ self.old.out.octets ++ times_scale held.now.scale.now times) }
     {
         let (scale, ends) = (held.scale, held.ends);
         let numerator = u128::from(times) * u128::from(scale.num);

@@ -52,7 +52,7 @@ impl Lister {
         requires width { IsWidth width }
         requires content { ContentListable width content.now }
         requires fits { number < 2 ^ width }
-        ensures { OnOk result (self.new.out ≡ self.old.out ++ (remark width content.now number ++ line_feed ∷ [])) }
+        ensures { OnOk result (self.new.out.octets ≡ self.old.out.octets ++ (remark width content.now number ++ line_feed ∷ [])) }
     {
         match content {
             Content::Raw => self.octet(b'\n'),
@@ -71,7 +71,7 @@ impl Lister {
 
     #[inline(always)]
     fn table_end(&mut self, entries: &TableTexts, number: u64) -> Result<(), AllocError>
-        ensures { OnOk result (self.new.out ≡ self.old.out ++ (entry_remark (find (λ entry. entry.number == number) entries.now) ++ line_feed ∷ [])) }
+        ensures { OnOk result (self.new.out.octets ≡ self.old.out.octets ++ (entry_remark (find (λ entry. entry.number == number) entries.now) ++ line_feed ∷ [])) }
     {
         match entry_with(entries, number) {
             None => self.octet(b'\n'),
@@ -83,7 +83,7 @@ impl Lister {
     #[inline(always)]
     #[tactic(auto, using(crate::proofs::RemarkWays::quoted_last))]
     pub(crate) fn quoted_end(&mut self, text: &[u8]) -> Result<(), AllocError>
-        ensures { OnOk result (self.new.out ≡ self.old.out ++ (codes " " ++ quoted text.now ++ line_feed ∷ [])) }
+        ensures { OnOk result (self.new.out.octets ≡ self.old.out.octets ++ (codes " " ++ quoted text.now ++ line_feed ∷ [])) }
     {
         self.out.text3(b" \"", text, b"\"\n")
     }
@@ -99,7 +99,7 @@ impl Lister {
         requires width { IsWidth width }
         requires content { ContentListable width content.now }
         requires fits { number < 2 ^ width }
-        ensures { OnOk result (self.new.out ≡ self.old.out ++ remark width content.now number) }
+        ensures { OnOk result (self.new.out.octets ≡ self.old.out.octets ++ remark width content.now number) }
     {
         match content {
             Content::Raw => Ok(()),
@@ -117,7 +117,7 @@ impl Lister {
     }
 
     fn table_remark(&mut self, entries: &TableTexts, number: u128) -> Result<(), AllocError>
-        ensures { OnOk result (self.new.out ≡ self.old.out ++ entry_remark (find (λ entry. entry.number == number) entries.now)) }
+        ensures { OnOk result (self.new.out.octets ≡ self.old.out.octets ++ entry_remark (find (λ entry. entry.number == number) entries.now)) }
     {
         match entry_of(entries, number) {
             None => Ok(()),
@@ -128,7 +128,7 @@ impl Lister {
     /// The characters of an element of so many bits.
     fn characters(&mut self, number: u128, width: u32, alphabet: Alphabet) -> Result<(), AllocError>
         requires { width ≤ 128 }
-        ensures { OnOk result (self.new.out ≡ self.old.out ++ (codes " " ++ quoted (characters alphabet width number))) }
+        ensures { OnOk result (self.new.out.octets ≡ self.old.out.octets ++ (codes " " ++ quoted (characters alphabet width number))) }
     {
         self.octets(b" \"")?;
         self.each_character(number, width, alphabet)?;
@@ -143,7 +143,7 @@ impl Lister {
         alphabet: Alphabet,
     ) -> Result<(), AllocError>
         requires { width ≤ 128 }
-        ensures { OnOk result (self.new.out ≡ self.old.out ++ characters alphabet width number) }
+        ensures { OnOk result (self.new.out.octets ≡ self.old.out.octets ++ characters alphabet width number) }
     {
         let size = alphabet.size();
         let mut left = width / size;
@@ -161,7 +161,7 @@ impl Lister {
         requires narrow { width ≤ 64 }
         requires denominator { 0 < scale.now.den }
         requires fits { number < 2 ^ width }
-        ensures { OnOk result (self.new.out ≡ self.old.out ++ remark width (Quantity scale.now) number) }
+        ensures { OnOk result (self.new.out.octets ≡ self.old.out.octets ++ remark width (Quantity scale.now) number) }
     {
         self.octet(b' ')?;
         self.multiple(number, width, scale)?;
@@ -175,7 +175,7 @@ impl Lister {
         requires narrow { width ≤ 64 }
         requires denominator { 0 < scale.now.den }
         requires fits { number < 2 ^ width }
-        ensures { OnOk result (self.new.out ≡ self.old.out ++ scaled_text scale.now width number) }
+        ensures { OnOk result (self.new.out.octets ≡ self.old.out.octets ++ scaled_text scale.now width number) }
     {
         let (num, den) = (scale.num, scale.den);
         match scale.sign {
@@ -194,7 +194,7 @@ impl Lister {
     #[tactic(auto, using(crate::proofs::RemarkWays::fraction_ways))]
     pub(crate) fn fraction(&mut self, times: u64, num: u64, den: u64) -> Result<(), AllocError>
         requires { 0 < den }
-        ensures { OnOk result (self.new.out ≡ self.old.out ++ reduced_text (times * num) den) }
+        ensures { OnOk result (self.new.out.octets ≡ self.old.out.octets ++ reduced_text (times * num) den) }
     {
         let numerator = u128::from(times) * u128::from(num);
         if numerator <= u128::from(u64::MAX) {

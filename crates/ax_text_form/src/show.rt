@@ -33,7 +33,7 @@ impl Lister {
         category: u8,
         octets: &[u8],
     ) -> Result<(), AllocError>
-        ensures { OnOk result (self.new.out ≡ self.old.out ++ OpaqueShown number category octets.now) }
+        ensures { OnOk result (self.new.out.octets ≡ self.old.out.octets ++ OpaqueShown number category octets.now) }
     {
         self.front(number, category, 3 + octets.len() as u64)?;
         self.octets(b" opaque ")?;
@@ -53,7 +53,7 @@ impl Lister {
 
     /// The front of a block's line.
     fn front(&mut self, number: u64, category: u8, octets: u64) -> Result<(), AllocError>
-        ensures { OnOk result (self.new.out ≡ self.old.out ++ block_front number category octets) }
+        ensures { OnOk result (self.new.out.octets ≡ self.old.out.octets ++ block_front number category octets) }
     {
         self.octets(b"block ")?;
         self.decimal(u128::from(number))?;

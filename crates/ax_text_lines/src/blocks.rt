@@ -27,7 +27,7 @@ pub fn print_block(
 ) -> Result<(), DecodeError>
     requires spec { NoFlaw (spec_tree items.now) }
     requires mask { IsMaskOf (record_slot_list (spec_tree items.now)) mask.now }
-    ensures printed { OnOk result (IsBlockPrinted (spec_tree items.now) raw.now.category raw.now.body.now line.new) }
+    ensures printed { OnOk result (IsBlockPrinted (spec_tree items.now) raw.now.category raw.now.body.now line.new.octets) }
     ensures fault { IfErr result (IsFaultOf (IsBodyFault (spec_tree items.now) raw.now.body.now)) }
 {
     line.begin(b"block")?;
@@ -50,7 +50,7 @@ fn print_body(
     requires mask { IsMaskOf (record_slot_list (spec_tree items.now)) mask.now }
     requires body { length body.now ≤ longest_body }
     requires some { 1 ≤ length body.now }
-    ensures records { OnOk result (PrintsBody (spec_tree items.now) body.now line.old line.new) }
+    ensures records { OnOk result (PrintsBody (spec_tree items.now) body.now line.old.octets line.new.octets) }
     ensures fault { IfErr result (IsFaultOf (IsBodyFault (spec_tree items.now) body.now)) }
 {
     let mut at = 0;
@@ -63,7 +63,7 @@ fn print_body(
 /// Prints the line of a block whose category has no specification in place of what the line held: its category and its
 /// octets after LEN.
 pub fn print_opaque(line: &mut TokenLine, raw: &RawBlock<'_>) -> Result<(), AllocError>
-    ensures { OnOk result (line.new ≡ OpaqueLine raw.now.category raw.now.body.now) }
+    ensures { OnOk result (line.new.octets ≡ OpaqueLine raw.now.category raw.now.body.now) }
 {
     line.begin(b"opaque")?;
     line.category(raw.category)?;

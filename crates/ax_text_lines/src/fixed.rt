@@ -20,7 +20,7 @@ use std::alloc::AllocError;
 fn print_wide(line: &mut TokenLine, width: u32, body: &[u8], at: u32) -> Result<(), AllocError>
     requires width { IsWidth width }
     requires within { at + width ≤ 8 * length body.now }
-    ensures { OnOk result (PrintsNumber width body.now at line.old line.new) }
+    ensures { OnOk result (PrintsNumber width body.now at line.old.octets line.new.octets) }
 {
     line.wide_number(bits_at(body, at, width))
 }
@@ -36,7 +36,7 @@ fn print_number(
     requires width { IsWidth width }
     requires within { at.old + width ≤ 8 * length body.now }
     requires body { length body.now ≤ longest_body }
-    ensures text { OnOk result (PrintsNumber width body.now at.old line.old line.new) }
+    ensures text { OnOk result (PrintsNumber width body.now at.old line.old.octets line.new.octets) }
     ensures at { at.new ≡ at.old + width }
 {
     let here = *at;
@@ -59,7 +59,7 @@ pub(crate) fn print_fixed(
     requires bounds { FixedInBounds (fixed_tree fixed.now) }
     requires within { at.old + width (fixed_tree fixed.now) ≤ 8 * length body.now }
     requires body { length body.now ≤ longest_body }
-    ensures text { OnOk result (PrintsFixed (fixed_tree fixed.now) body.now at.old line.old line.new) }
+    ensures text { OnOk result (PrintsFixed (fixed_tree fixed.now) body.now at.old line.old.octets line.new.octets) }
     ensures at { OnOk result (at.new ≡ at.old + width (fixed_tree fixed.now)) }
 {
     match fixed {
@@ -85,7 +85,7 @@ pub(crate) fn print_members(
     requires bounds { MembersInBounds (members_tree members.now) }
     requires within { at.old + members_width (members_tree members.now) ≤ 8 * length body.now }
     requires body { length body.now ≤ longest_body }
-    ensures text { OnOk result (PrintsMembers (members_tree members.now) body.now at.old line.old line.new) }
+    ensures text { OnOk result (PrintsMembers (members_tree members.now) body.now at.old line.old.octets line.new.octets) }
     ensures at { OnOk result (at.new ≡ at.old + members_width (members_tree members.now)) }
 {
     for member in members.as_slice() {
@@ -105,7 +105,7 @@ fn print_member(
     requires bounds { MembersInBounds (member_alone (member_tree member.now)) }
     requires within { at.old + members_width (member_alone (member_tree member.now)) ≤ 8 * length body.now }
     requires body { length body.now ≤ longest_body }
-    ensures text { OnOk result (PrintsMembers (member_alone (member_tree member.now)) body.now at.old line.old line.new) }
+    ensures text { OnOk result (PrintsMembers (member_alone (member_tree member.now)) body.now at.old line.old.octets line.new.octets) }
     ensures at { OnOk result (at.new ≡ at.old + members_width (member_alone (member_tree member.now))) }
 {
     match member {
@@ -134,7 +134,7 @@ pub(crate) fn print_part(
     requires bounds { MembersInBounds (part_tree part.now) }
     requires within { at.old + members_width (part_tree part.now) ≤ 8 * length body.now }
     requires body { length body.now ≤ longest_body }
-    ensures text { OnOk result (PrintsPart (part_tree part.now) body.now at.old line.old line.new) }
+    ensures text { OnOk result (PrintsPart (part_tree part.now) body.now at.old line.old.octets line.new.octets) }
     ensures at { OnOk result (at.new ≡ at.old + members_width (part_tree part.now)) }
 {
     line.text(b"part")?;

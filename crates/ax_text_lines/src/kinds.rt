@@ -32,7 +32,7 @@ pub(crate) fn print_value(
     requires bounds { InBounds (text_kind kind.now) }
     requires body { length body.now ≤ longest_body }
     requires at { at ≤ length body.now }
-    ensures ok { IfOk result (λ end. PrintsValue (text_kind kind.now) body.now at end line.old line.new) }
+    ensures ok { IfOk result (λ end. PrintsValue (text_kind kind.now) body.now at end line.old.octets line.new.octets) }
     ensures err { IfErr result (λ e. HasFailed (kind_read (text_kind kind.now) body.now at) at e) }
 {
     match kind {
@@ -58,7 +58,7 @@ fn print_counted(
     requires bounds { InBounds (text_kind inner.now) }
     requires body { length body.now ≤ longest_body }
     requires at { at ≤ length body.now }
-    ensures ok { IfOk result (λ end. PrintsValue (Tree.counted size (text_kind inner.now)) body.now at end line.old line.new) }
+    ensures ok { IfOk result (λ end. PrintsValue (Tree.counted size (text_kind inner.now)) body.now at end line.old.octets line.new.octets) }
     ensures err { IfErr result (λ e. HasFailed (kind_read (Tree.counted size (text_kind inner.now)) body.now at) at e) }
 {
     let count = counter_at(body, at, size)?;
@@ -76,7 +76,7 @@ fn print_counted(
 fn print_explicit(line: &mut TokenLine, body: &[u8], at: u32) -> Result<u32, DecodeError>
     requires body { length body.now ≤ longest_body }
     requires at { at ≤ length body.now }
-    ensures ok { IfOk result (λ end. PrintsValue Tree.explicit body.now at end line.old line.new) }
+    ensures ok { IfOk result (λ end. PrintsValue Tree.explicit body.now at end line.old.octets line.new.octets) }
     ensures err { IfErr result (λ e. HasFailed (kind_read Tree.explicit body.now at) at e) }
 {
     let content = explicit_content(body, at)?;
@@ -96,7 +96,7 @@ fn print_compound(
     requires bounds { InBounds (Tree.compound (text_slots slots.now)) }
     requires body { length body.now ≤ longest_body }
     requires at { at ≤ length body.now }
-    ensures ok { IfOk result (λ end. PrintsValue (Tree.compound (text_slots slots.now)) body.now at end line.old line.new) }
+    ensures ok { IfOk result (λ end. PrintsValue (Tree.compound (text_slots slots.now)) body.now at end line.old.octets line.new.octets) }
     ensures err { IfErr result (λ e. HasFailed (kind_read (Tree.compound (text_slots slots.now)) body.now at) at e) }
 {
     let all = slots.as_slice();
@@ -122,7 +122,7 @@ pub(crate) fn print_marked(
     requires marks { AreBits marked.now }
     requires body { length body.now ≤ longest_body }
     requires at { at ≤ length body.now }
-    ensures ok { IfOk result (λ end. PrintsEntries (text_slots slots.now) marked.now body.now at end line.old line.new) }
+    ensures ok { IfOk result (λ end. PrintsEntries (text_slots slots.now) marked.now body.now at end line.old.octets line.new.octets) }
     ensures err { IfErr result (λ e. HasFailed (entries_at (text_slots slots.now) marked.now body.now at) at e) }
 {
     let all = slots.as_slice();
@@ -146,7 +146,7 @@ fn print_slot(
     requires bounds { SlotInBounds (text_slot slot.now) }
     requires body { length body.now ≤ longest_body }
     requires at { at ≤ length body.now }
-    ensures ok { IfOk result (λ end. IsSlotPrinted (text_slot slot.now) body.now at end line.old line.new) }
+    ensures ok { IfOk result (λ end. IsSlotPrinted (text_slot slot.now) body.now at end line.old.octets line.new.octets) }
     ensures err { IfErr result (λ e. HasSlotFailed (text_slot slot.now) body.now at e) }
 {
     match slot {

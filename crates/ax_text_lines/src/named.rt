@@ -121,7 +121,7 @@ fn print_named(
     requires bounds { FixedInBounds (fixed_tree item.now.fixed.now) }
     requires within { at + Widths.width (fixed_tree item.now.fixed.now) ≤ 8 * length body.now }
     requires body { length body.now ≤ longest_body }
-    ensures { OnOk result (PrintsNamed item.now.name (fixed_tree item.now.fixed.now) body.now at line.old line.new) }
+    ensures { OnOk result (PrintsNamed item.now.name (fixed_tree item.now.fixed.now) body.now at line.old.octets line.new.octets) }
 {
     if let Some(steps) = &item.steps {
         line.steps(steps, body, at, item.width as u32)?;
@@ -145,7 +145,7 @@ pub(crate) fn print_item(
     requires bounds { InBounds (Tree.fixed (fixed_tree item.now.fixed.now)) }
     requires body { length body.now ≤ longest_body }
     requires at { at ≤ length body.now }
-    ensures ok { IfOk result (λ end. SlotPrints (fixed_slot item.now.name (fixed_tree item.now.fixed.now)) body.now at end line.old line.new) }
+    ensures ok { IfOk result (λ end. SlotPrints (fixed_slot item.now.name (fixed_tree item.now.fixed.now)) body.now at end line.old.octets line.new.octets) }
     ensures err { IfErr result (λ e. HasFailed (kind_read (Tree.fixed (fixed_tree item.now.fixed.now)) body.now at) at e) }
 {
     let end = unit_end(body, at, item.width as u32)?;

@@ -28,7 +28,7 @@ pub(crate) fn print_record(
     requires mask { IsMaskOf (record_slot_list (spec_tree items.now)) mask.now }
     requires body { length body.now ≤ longest_body }
     requires at { at ≤ length body.now }
-    ensures ok { IfOk result (λ end. IsRecordPrinted (spec_tree items.now) body.now at end line.old line.new) }
+    ensures ok { IfOk result (λ end. IsRecordPrinted (spec_tree items.now) body.now at end line.old.octets line.new.octets) }
     ensures err { IfErr result (λ e. HasFailed (kind_read (record_kind (spec_tree items.now)) body.now at) at e) }
 {
     let mut marked = Presence::empty();

@@ -23,7 +23,7 @@ pub(crate) fn print_held(
     requires bounds { FixedInBounds (fixed_tree held.now.fixed.now) }
     requires within { at + width (fixed_tree held.now.fixed.now) ≤ 8 * length body.now }
     requires body { length body.now ≤ longest_body }
-    ensures { OnOk result (PrintsFixed (fixed_tree held.now.fixed.now) body.now at line.old line.new) }
+    ensures { OnOk result (PrintsFixed (fixed_tree held.now.fixed.now) body.now at line.old.octets line.new.octets) }
 {
     if let Some(steps) = &held.steps {
         line.steps(steps, body, at, held.width as u32)?;
@@ -45,7 +45,7 @@ pub(crate) fn print_held_part(
     requires bounds { MembersInBounds (part_tree held.now.part.now) }
     requires within { at + members_width (part_tree held.now.part.now) ≤ 8 * length body.now }
     requires body { length body.now ≤ longest_body }
-    ensures { OnOk result (PrintsPart (part_tree held.now.part.now) body.now at line.old line.new) }
+    ensures { OnOk result (PrintsPart (part_tree held.now.part.now) body.now at line.old.octets line.new.octets) }
 {
     if let Some(steps) = &held.steps {
         line.steps(steps, body, at, held.width as u32)?;

@@ -29,7 +29,7 @@ pub(crate) fn print_single(
     requires bounds { InBounds (Tree.fixed (fixed_tree fixed.now.fixed.now)) }
     requires body { length body.now ≤ longest_body }
     requires at { at ≤ length body.now }
-    ensures ok { IfOk result (λ end. PrintsValue (Tree.fixed (fixed_tree fixed.now.fixed.now)) body.now at end line.old line.new) }
+    ensures ok { IfOk result (λ end. PrintsValue (Tree.fixed (fixed_tree fixed.now.fixed.now)) body.now at end line.old.octets line.new.octets) }
     ensures err { IfErr result (λ e. HasFailed (kind_read (Tree.fixed (fixed_tree fixed.now.fixed.now)) body.now at) at e) }
 {
     let end = unit_end(body, at, fixed.width as u32)?;
@@ -49,7 +49,7 @@ pub(crate) fn print_parts(
     requires bounds { InBounds (Tree.extended last (map text_part parts.now)) }
     requires body { length body.now ≤ longest_body }
     requires at { at ≤ length body.now }
-    ensures ok { IfOk result (λ end. PrintsValue (Tree.extended last (map text_part parts.now)) body.now at end line.old line.new) }
+    ensures ok { IfOk result (λ end. PrintsValue (Tree.extended last (map text_part parts.now)) body.now at end line.old.octets line.new.octets) }
     ensures err { IfErr result (λ e. HasFailed (kind_read (Tree.extended last (map text_part parts.now)) body.now at) at e) }
 {
     line.open()?;
@@ -72,7 +72,7 @@ pub(crate) fn print_run(
     requires bounds { InBounds (Tree.by_fx (fixed_tree fixed.now.fixed.now)) }
     requires body { length body.now ≤ longest_body }
     requires at { at ≤ length body.now }
-    ensures ok { IfOk result (λ end. PrintsValue (Tree.by_fx (fixed_tree fixed.now.fixed.now)) body.now at end line.old line.new) }
+    ensures ok { IfOk result (λ end. PrintsValue (Tree.by_fx (fixed_tree fixed.now.fixed.now)) body.now at end line.old.octets line.new.octets) }
     ensures err { IfErr result (λ e. HasFailed (kind_read (Tree.by_fx (fixed_tree fixed.now.fixed.now)) body.now at) at e) }
 {
     line.open()?;

@@ -23,4 +23,4 @@ unreachable-requires c =
 pub returns-in-Ok-clause-octets : goal.returns-in-Ok-clause-octets
 returns-in-Ok-clause-octets c =
     let there = known c.args.tables.now c.args.catalogue.now c.args.block.raw.now.category c.requires.tables c.get-in-Some.result c.in-Some-get.table c.get-in-Some.ensures.spec c.in-Some-get.is in
-    read_block_listed (catalogue_tree c.args.catalogue.now) c.args.block.number (raw_tree c.args.block.raw.now) (spec_tree c.in-Some-get.table.now.items) c.list_read.new.room.lister.out c.args.block.raw.now.within_block there c.in-Ok.ensures.octets
+    read_block_listed (catalogue_tree c.args.catalogue.now) c.args.block.number (raw_tree c.args.block.raw.now) (spec_tree c.in-Some-get.table.now.items) c.list_read.new.room.lister.out.octets c.args.block.raw.now.within_block there c.in-Ok.ensures.octets

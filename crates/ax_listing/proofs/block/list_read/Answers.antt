@@ -13,6 +13,6 @@ returns-in-Ok-list_body-clause-octets c =
     let codec = c.args.codec.now in
     let body = c.args.block.raw.now.body.now in
     let output = bits c.lay_view-octets.new.output in
-    read_listed codec (spec_tree c.args.table.now.items) (raw_tree c.args.block.raw.now) c.args.block.number c.lay_view-octets.result c.count.result output c.list_body.new.lister.out c.requires.no_flaw c.requires.stands c.requires.category c.list_body.ensures.small
+    read_listed codec (spec_tree c.args.table.now.items) (raw_tree c.args.block.raw.now) c.args.block.number c.lay_view-octets.result c.count.result output c.list_body.new.lister.out.octets c.requires.no_flaw c.requires.stands c.requires.category c.list_body.ensures.small
     (subst (λ body. LaysBits codec body c.lay_view-octets.result output) c.in-Ok.ensures.body (subst (λ codec. LaysBits codec view.body.now c.lay_view-octets.result output) c.in-Ok.ensures.codec c.lay_view-octets.ensures.laid))
     (subst (λ body. CountsRecords codec body c.count.result) c.in-Ok.ensures.body (subst (λ codec. CountsRecords codec view.body.now c.count.result) c.in-Ok.ensures.codec c.count.ensures)) c.in-Ok-list_body.ensures.ok

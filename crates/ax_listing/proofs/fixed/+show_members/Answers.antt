@@ -14,6 +14,6 @@ show_members-loop-member-preserved t c =
     let is : m ≡ get_or all i m = subst (λ xs. m ≡ get_or xs i m) same c.member-item.is in
     record {
       within = c.in_ok-at.ensures.end.1;
-      shown = member_next (held_members all) all i m (bits c.args.from.body.now) c.args.from.at c.loop-member.at c.args.path.now c.args.lister.now.out c.loop-member.lister.out c.loop-member.invariant.shown within is
-          c.in_ok-at.at c.show_member.new.lister.out c.in_ok-at.ensures.lines c.in_ok-at.ensures.end.0;
+      shown = member_next (held_members all) all i m (bits c.args.from.body.now) c.args.from.at c.loop-member.at c.args.path.now c.args.lister.now.out.octets c.loop-member.lister.out.octets c.loop-member.invariant.shown within is
+          c.in_ok-at.at c.show_member.new.lister.out.octets c.in_ok-at.ensures.lines c.in_ok-at.ensures.end.0;
     }

@@ -23,20 +23,20 @@ use Rattle.ax_listing.proofs.kinds.+show_kind.Goals as goal
 
 pub show_counted-set_count-requires : goal.show_counted-set_count-requires
 show_counted-set_count-requires t c =
-    counted_longer (counted c.args.size (held_kind c.args.inner.now)) c.args.path.now (codes "occurrences") c.args.from.body.now c.args.from.at c.in_ok-end.end c.len-line.result c.args.lister.now.out c.none_of.new.self.out c.show_each.new.lister.out c.in_ok-end.count c.in_ok-none_of.ensures c.len-line.ensures c.in_ok-end.ensures.ok
+    counted_longer (counted c.args.size (held_kind c.args.inner.now)) c.args.path.now (codes "occurrences") c.args.from.body.now c.args.from.at c.in_ok-end.end c.len-line.result c.args.lister.now.out.octets c.none_of.new.self.out.octets c.show_each.new.lister.out.octets c.in_ok-end.count c.in_ok-none_of.ensures c.len-line.ensures c.in_ok-end.ensures.ok
 
 pub show_counted-returns-clause-ok : goal.show_counted-returns-clause-ok
 show_counted-returns-clause-ok t c =
-    counted_shown (counted c.args.size (held_kind c.args.inner.now)) c.args.path.now (codes "occurrences") c.args.from.body.now c.args.from.at c.in_ok-end.end c.len-line.result c.args.lister.now.out c.none_of.new.self.out c.show_each.new.lister.out c.set_count.new.self.out c.in_ok-end.count
+    counted_shown (counted c.args.size (held_kind c.args.inner.now)) c.args.path.now (codes "occurrences") c.args.from.body.now c.args.from.at c.in_ok-end.end c.len-line.result c.args.lister.now.out.octets c.none_of.new.self.out.octets c.show_each.new.lister.out.octets c.set_count.new.self.out.octets c.in_ok-end.count
     c.in_ok-none_of.ensures c.len-line.ensures c.in_ok-end.ensures.ok c.in_ok-set_count.ensures
 
 pub show_compound-set_count-requires : goal.show_compound-set_count-requires
 show_compound-set_count-requires t c =
-    counted_longer (compound (held_slots c.args.slots.now)) c.args.path.now (codes "subitems") c.args.from.body.now c.args.from.at c.in_ok-end.end c.len-line.result c.args.lister.now.out c.none_of.new.self.out c.show_subitems.new.lister.out c.in_ok-end.count c.in_ok-none_of.ensures c.len-line.ensures c.in_ok-end.ensures.ok
+    counted_longer (compound (held_slots c.args.slots.now)) c.args.path.now (codes "subitems") c.args.from.body.now c.args.from.at c.in_ok-end.end c.len-line.result c.args.lister.now.out.octets c.none_of.new.self.out.octets c.show_subitems.new.lister.out.octets c.in_ok-end.count c.in_ok-none_of.ensures c.len-line.ensures c.in_ok-end.ensures.ok
 
 pub show_compound-returns-clause-ok : goal.show_compound-returns-clause-ok
 show_compound-returns-clause-ok t c =
-    counted_shown (compound (held_slots c.args.slots.now)) c.args.path.now (codes "subitems") c.args.from.body.now c.args.from.at c.in_ok-end.end c.len-line.result c.args.lister.now.out c.none_of.new.self.out c.show_subitems.new.lister.out c.set_count.new.self.out c.in_ok-end.count
+    counted_shown (compound (held_slots c.args.slots.now)) c.args.path.now (codes "subitems") c.args.from.body.now c.args.from.at c.in_ok-end.end c.len-line.result c.args.lister.now.out.octets c.none_of.new.self.out.octets c.show_subitems.new.lister.out.octets c.set_count.new.self.out.octets c.in_ok-end.count
     c.in_ok-none_of.ensures c.len-line.ensures c.in_ok-end.ensures.ok c.in_ok-set_count.ensures
 
 -- ---- occurrences
@@ -51,7 +51,7 @@ show_each-returns-in_err-count-clause-err t c =
 pub show_each-loop-number-init : goal.show_each-loop-number-init
 show_each-loop-number-init t c =
     let k = held_kind c.args.inner.now in
-    let out = c.args.lister.now.out in
+    let out = c.args.lister.now.out.octets in
     subst (λ m. CountShown c.args.size k c.args.path.now c.args.from.body.now c.in_ok-count.count 0 c.args.from.at (c.args.from.at + m) out out) (sym c.octets.ensures)
     (count_first c.args.size k c.args.path.now c.args.from.body.now c.in_ok-count.count c.args.from.at out c.in_ok-count.ensures.count)
 
@@ -60,16 +60,16 @@ show_each-returns-in_err-here-clause-err t c =
     let k = held_kind c.args.inner.now in
     let e = c.in_err-here.field-0.0 in
     err_is (kind_read (counted c.args.size k) c.args.from.body.now c.args.from.at) c.args.from.at c.from_residual-in_err-here.result e c.from_residual-in_err-here.ensures.1
-    (count_failed c.args.size k c.args.path.now c.args.from.body.now c.in_ok-count.count c.loop-number.number c.args.from.at c.loop-number.here c.args.lister.now.out c.loop-number.lister.out e c.loop-number.invariant c.loop-number-test.true c.in_err-here.ensures.err)
+    (count_failed c.args.size k c.args.path.now c.args.from.body.now c.in_ok-count.count c.loop-number.number c.args.from.at c.loop-number.here c.args.lister.now.out.octets c.loop-number.lister.out.octets e c.loop-number.invariant c.loop-number-test.true c.in_err-here.ensures.err)
 
 pub show_each-loop-number-preserved : goal.show_each-loop-number-preserved
 show_each-loop-number-preserved t c =
-    count_next c.args.size (held_kind c.args.inner.now) c.args.path.now c.args.from.body.now c.in_ok-count.count c.loop-number.number c.args.from.at c.loop-number.here c.in_ok-here.here c.set_numbered.new.inner c.args.lister.now.out c.loop-number.lister.out c.show_value.new.lister.out
+    count_next c.args.size (held_kind c.args.inner.now) c.args.path.now c.args.from.body.now c.in_ok-count.count c.loop-number.number c.args.from.at c.loop-number.here c.in_ok-here.here c.set_numbered.new.inner c.args.lister.now.out.octets c.loop-number.lister.out.octets c.show_value.new.lister.out.octets
     c.loop-number.invariant c.loop-number-test.true c.in_ok-set_numbered.ensures c.in_ok-here.ensures.ok
 
 pub show_each-returns-clause-ok : goal.show_each-returns-clause-ok
 show_each-returns-clause-ok t c =
-    count_last c.args.size (held_kind c.args.inner.now) c.args.path.now c.args.from.body.now c.in_ok-count.count c.loop-number.number c.args.from.at c.loop-number.here c.args.lister.now.out c.loop-number.lister.out c.loop-number.invariant c.loop-number-test.false
+    count_last c.args.size (held_kind c.args.inner.now) c.args.path.now c.args.from.body.now c.in_ok-count.count c.loop-number.number c.args.from.at c.loop-number.here c.args.lister.now.out.octets c.loop-number.lister.out.octets c.loop-number.invariant c.loop-number-test.false
 
 -- ---- subitems
 
@@ -90,7 +90,7 @@ show_subitems-returns-in_err-here-clause-err t c =
 pub show_subitems-loop-number-init : goal.show_subitems-loop-number-init
 show_subitems-loop-number-init t c =
     let m = subst (λ xs. MarksOf (map held_slot xs) c.args.from.body.now c.args.from.at c.in_ok-here.here c.read_field.new.into) c.as_slice-all.ensures.members c.in_ok-here.ensures.ok in
-    compound_first (map held_slot c.args.slots.now) m.mask c.args.path.now c.args.from.body.now c.read_field.new.into c.args.from.at c.in_ok-here.here c.args.lister.now.out c.requires.bounds m.is m.marks
+    compound_first (map held_slot c.args.slots.now) m.mask c.args.path.now c.args.from.body.now c.read_field.new.into c.args.from.at c.in_ok-here.here c.args.lister.now.out.octets c.requires.bounds m.is m.marks
 
 pub show_subitems-bounds-all-number : goal.show_subitems-bounds-all-number
 show_subitems-bounds-all-number t c =
@@ -134,7 +134,7 @@ show_subitems-returns-in_err-here-2-clause-err t c =
     let e = c.in_err-here-2.field-0.0 in
     err_is (kind_read (compound (slots_of slots)) body c.args.from.at) c.args.from.at c.from_residual-in_err-here-2.result e c.from_residual-in_err-here-2.ensures.1
     (record {
-      met = marks_failed (compound_done slots path body c.args.from.at c.args.lister.now.out) (FailsAt (kind_read (compound (slots_of slots)) body c.args.from.at) c.args.from.at) slots path c.loop-number.left c.take_first.new.self body number c.loop-number.here c.loop-number.lister.out c.loop-number.count h n e
+      met = marks_failed (compound_done slots path body c.args.from.at c.args.lister.now.out.octets) (FailsAt (kind_read (compound (slots_of slots)) body c.args.from.at) c.args.from.at) slots path c.loop-number.left c.take_first.new.self body number c.loop-number.here c.loop-number.lister.out.octets c.loop-number.count h n e
           (subst (λ slot. HasSlotFailed slot body c.loop-number.here e) (sym (at_number all number s c.in-Some.ensures.within.0 within is)) c.in_err-here-2.ensures.err);
     })
 
@@ -150,13 +150,13 @@ show_subitems-loop-number-preserved t c =
     let s = c.index-all-number.result in
     let within : number - 1 < length all = omega (arith, n.within, length-map all held_slot) in
     let is : s ≡ get_or all (number - 1) s = subst (λ xs. s ≡ get_or xs (number - 1) s) c.as_slice-all.ensures.members c.index-all-number.is in
-    marks_next (compound_done slots path body c.args.from.at c.args.lister.now.out) (FailsAt (kind_read (compound (slots_of slots)) body c.args.from.at) c.args.from.at) slots path c.loop-number.left c.take_first.new.self body number c.loop-number.here c.loop-number.lister.out c.loop-number.count h n
-    c.in_ok-here-2.here c.show_slot.new.lister.out c.in-Some.ensures.some
-    (subst (λ slot. IsSlotShown slot path body c.loop-number.here c.in_ok-here-2.here c.loop-number.lister.out c.show_slot.new.lister.out) (sym (at_number all number s c.in-Some.ensures.within.0 within is)) c.in_ok-here-2.ensures.ok)
+    marks_next (compound_done slots path body c.args.from.at c.args.lister.now.out.octets) (FailsAt (kind_read (compound (slots_of slots)) body c.args.from.at) c.args.from.at) slots path c.loop-number.left c.take_first.new.self body number c.loop-number.here c.loop-number.lister.out.octets c.loop-number.count h n
+    c.in_ok-here-2.here c.show_slot.new.lister.out.octets c.in-Some.ensures.some
+    (subst (λ slot. IsSlotShown slot path body c.loop-number.here c.in_ok-here-2.here c.loop-number.lister.out.octets c.show_slot.new.lister.out.octets) (sym (at_number all number s c.in-Some.ensures.within.0 within is)) c.in_ok-here-2.ensures.ok)
 
 pub show_subitems-returns-clause-ok : goal.show_subitems-returns-clause-ok
 show_subitems-returns-clause-ok t c =
     let slots : List SlotTree = map held_slot c.args.slots.now in
     let body = c.args.from.body.now in
-    marks_last (compound_done slots c.args.path.now body c.args.from.at c.args.lister.now.out) (FailsAt (kind_read (compound (slots_of slots)) body c.args.from.at) c.args.from.at) slots c.args.path.now c.loop-number.left body c.loop-number.here c.loop-number.lister.out c.loop-number.count c.loop-number.invariant
+    marks_last (compound_done slots c.args.path.now body c.args.from.at c.args.lister.now.out.octets) (FailsAt (kind_read (compound (slots_of slots)) body c.args.from.at) c.args.from.at) slots c.args.path.now c.loop-number.left body c.loop-number.here c.loop-number.lister.out.octets c.loop-number.count c.loop-number.invariant
     c.in_default.ensures.none

@@ -27,7 +27,7 @@ returns-in_err-here-clause-err c =
 pub loop-frn-init : goal.loop-frn-init
 loop-frn-init c =
     let spec = spec_tree c.args.items.items.now in
-    (0, items_first spec c.args.items.mask.now c.args.path.now c.args.from.body.now c.read_presence.new.into c.args.from.at c.in_ok-here.here c.args.lister.now.out (record_bounds spec c.requires.spec) c.requires.mask c.in_ok-here.ensures.ok)
+    (0, items_first spec c.args.items.mask.now c.args.path.now c.args.from.body.now c.read_presence.new.into c.args.from.at c.in_ok-here.here c.args.lister.now.out.octets (record_bounds spec c.requires.spec) c.requires.mask c.in_ok-here.ensures.ok)
 
 pub bounds-slots-frn : goal.bounds-slots-frn
 bounds-slots-frn c =
@@ -80,7 +80,7 @@ returns-in_err-here-2-clause-err c =
     let e = c.in_err-here-2.field-0.0 in
     err_is (kind_read (record_kind spec) body c.args.from.at) c.args.from.at c.from_residual-in_err-here-2.result e c.from_residual-in_err-here-2.ensures.1
     (record {
-      met = marks_failed (items_done spec path body c.args.from.at c.args.lister.now.out) (FailsAt (kind_read (record_kind spec) body c.args.from.at) c.args.from.at) slots path c.loop-frn.left c.take_first.new.self body frn c.loop-frn.here c.loop-frn.lister.out c.loop-frn.invariant.0 h n e
+      met = marks_failed (items_done spec path body c.args.from.at c.args.lister.now.out.octets) (FailsAt (kind_read (record_kind spec) body c.args.from.at) c.args.from.at) slots path c.loop-frn.left c.take_first.new.self body frn c.loop-frn.here c.loop-frn.lister.out.octets c.loop-frn.invariant.0 h n e
           (subst (λ slot. HasSlotFailed slot body c.loop-frn.here e) (sym slot_is) c.in_err-here-2.ensures.err);
     })
 
@@ -98,14 +98,14 @@ loop-frn-preserved c =
     let within : frn - 1 < length all = omega (arith, n.within, length-map all held_slot, ap length c.slots-slots.ensures) in
     let slot_is : slot_numbered (slots_of slots) frn ≡ held_slot s = ap (λ xs. slot_numbered (slots_of xs) frn) (sym c.slots-slots.ensures) ∙ at_number all frn s c.in-Some.ensures.within.0 within c.index-slots-frn.is in (
       c.loop-frn.invariant.0 + 1,
-      marks_next (items_done spec path body c.args.from.at c.args.lister.now.out) (FailsAt (kind_read (record_kind spec) body c.args.from.at) c.args.from.at) slots path c.loop-frn.left c.take_first.new.self body frn c.loop-frn.here c.loop-frn.lister.out c.loop-frn.invariant.0 h n
-          c.in_ok-here-2.here c.show_slot.new.lister.out c.in-Some.ensures.some
-          (subst (λ slot. IsSlotShown slot path body c.loop-frn.here c.in_ok-here-2.here c.loop-frn.lister.out c.show_slot.new.lister.out) (sym slot_is) c.in_ok-here-2.ensures.ok),
+      marks_next (items_done spec path body c.args.from.at c.args.lister.now.out.octets) (FailsAt (kind_read (record_kind spec) body c.args.from.at) c.args.from.at) slots path c.loop-frn.left c.take_first.new.self body frn c.loop-frn.here c.loop-frn.lister.out.octets c.loop-frn.invariant.0 h n
+          c.in_ok-here-2.here c.show_slot.new.lister.out.octets c.in-Some.ensures.some
+          (subst (λ slot. IsSlotShown slot path body c.loop-frn.here c.in_ok-here-2.here c.loop-frn.lister.out.octets c.show_slot.new.lister.out.octets) (sym slot_is) c.in_ok-here-2.ensures.ok),
     )
 
 pub returns-clause-ok : goal.returns-clause-ok
 returns-clause-ok c =
     let spec = spec_tree c.args.items.items.now in
     let body = c.args.from.body.now in
-    marks_last (items_done spec c.args.path.now body c.args.from.at c.args.lister.now.out) (FailsAt (kind_read (record_kind spec) body c.args.from.at) c.args.from.at) (record_slot_list spec) c.args.path.now c.loop-frn.left body c.loop-frn.here c.loop-frn.lister.out c.loop-frn.invariant.0 c.loop-frn.invariant.1
+    marks_last (items_done spec c.args.path.now body c.args.from.at c.args.lister.now.out.octets) (FailsAt (kind_read (record_kind spec) body c.args.from.at) c.args.from.at) (record_slot_list spec) c.args.path.now c.loop-frn.left body c.loop-frn.here c.loop-frn.lister.out.octets c.loop-frn.invariant.0 c.loop-frn.invariant.1
     c.in_default.ensures.none

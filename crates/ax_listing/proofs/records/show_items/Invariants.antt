@@ -9,7 +9,7 @@ use Rattle.ax_listing.proofs.records.show_items.Given as goal
 
 abbrev pub invariant-loop-frn : goal.invariant-loop-frn
 invariant-loop-frn l =
-    (i : ℕ) × MarksShown (items_done (spec_tree l.items.items.now) l.path l.from.body.now l.from.at l.fn.lister.out) (FailsAt (kind_read (record_kind (spec_tree l.items.items.now)) l.from.body.now l.from.at) l.from.at) (record_slot_list (spec_tree l.items.items.now)) l.path l.left l.from.body.now l.here l.lister.out i
+    (i : ℕ) × MarksShown (items_done (spec_tree l.items.items.now) l.path l.from.body.now l.from.at l.fn.lister.out.octets) (FailsAt (kind_read (record_kind (spec_tree l.items.items.now)) l.from.body.now l.from.at) l.from.at) (record_slot_list (spec_tree l.items.items.now)) l.path l.left l.from.body.now l.here l.lister.out.octets i
 
 abbrev pub decreases-loop-frn : goal.decreases-loop-frn
 decreases-loop-frn l = length (slots_of l.left)

@@ -10,7 +10,7 @@ returns-in_err-one-clause-ends g c = passed_on c.from_residual.result c.in_err-o
 
 pub returns-in_err-other-clause-ends : goal.returns-in_err-other-clause-ends
 returns-in_err-other-clause-ends g c = passed_on c.from_residual-in_err-other.result c.in_err-other.field-0.0 _ c.from_residual-in_err-other.ensures.1
-    (expansion_ends _ _ _ _ _ _ _ _ _ _ _ _ c.in_ok-one.ensures.gives c.load_file.ensures.keeps c.load_file.ensures.never_falls c.load_file.ensures.number_never_falls c.in_err-other.ensures.stops)
+    (expansion_ends _ _ _ _ _ _ _ _ _ _ _ _ c.in_ok-one.ensures.loads c.load_file.ensures.keeps c.load_file.ensures.never_falls c.in_err-other.ensures.stops)
 
 pub returns-in_err-other-clause-took_through : goal.returns-in_err-other-clause-took_through
 returns-in_err-other-clause-took_through g c = passed_on c.from_residual-in_err-other.result c.in_err-other.field-0.0 _ c.from_residual-in_err-other.ensures.1

@@ -7,5 +7,5 @@ use Rattle.ax_text.proofs.fixed.+list_fixed.Goals as goal
 pub list_members-loop-member-preserved : goal.list_members-loop-member-preserved
 list_members-loop-member-preserved t c =
     let steps = c.in-Some.ensures.steps in
-    member_next c.args.path.now (members_lines (members_tree c.args.members.now) c.args.path.now (values_tree c.args.values.now)) c.args.lister.now.out c.loop-member.lister.out c.list_member.new.lister.out c.in-Some.member.now
+    member_next c.args.path.now (members_lines (members_tree c.args.members.now) c.args.path.now (values_tree c.args.values.now)) c.args.lister.now.out.octets c.loop-member.lister.out.octets c.list_member.new.lister.out.octets c.in-Some.member.now
     c.loop-member.member-iterator.a.rest.now c.next.new.self.a.rest.now c.in-Some.value.now c.loop-member.member-iterator.b.rest.now c.next.new.self.b.rest.now c.loop-member.invariant steps.0 steps.1 (search rules)

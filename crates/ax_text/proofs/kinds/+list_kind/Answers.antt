@@ -23,7 +23,7 @@ list_each-loop-value-preserved t c =
     let same = c.as_slice-value-items.ensures.members in
     record {
       counted = ap (λ n. n + 1) c.loop-value.invariant.counted;
-      left = each_next (Shape k) (kind_lines k) path (each_lines (kind_lines k) path 0 (values_tree all)) c.args.lister.now.out c.loop-value.lister.out i all v c.in_ok-inner.inner c.list_kind.new.lister.out c.loop-value.invariant.left
+      left = each_next (Shape k) (kind_lines k) path (each_lines (kind_lines k) path 0 (values_tree all)) c.args.lister.now.out.octets c.loop-value.lister.out.octets i all v c.in_ok-inner.inner c.list_kind.new.lister.out.octets c.loop-value.invariant.left
           (subst (λ xs. i < length xs) same c.loop-value-test.true) (subst (λ xs. v ≡ get_or xs i v) same c.value-item.is) (c.in_ok-inner.ensures ∙ ap (occurrence path) c.loop-value.invariant.counted) (search rules);
     }
 
@@ -32,12 +32,12 @@ list_each-returns t c =
     let all = c.args.values.now in
     let k = kind_tree c.args.kind.now in
     let path = c.args.path.now in
-    each_ended (Shape k) (kind_lines k) path (each_lines (kind_lines k) path 0 (values_tree all)) c.args.lister.now.out c.loop-value.lister.out c.loop-value.value-index all c.loop-value.invariant.left
+    each_ended (Shape k) (kind_lines k) path (each_lines (kind_lines k) path 0 (values_tree all)) c.args.lister.now.out.octets c.loop-value.lister.out.octets c.loop-value.value-index all c.loop-value.invariant.left
     (subst (λ xs. length xs ≤ c.loop-value.value-index) c.as_slice-value-items.ensures.members c.loop-value-test.false)
 
 pub list_entries-loop-entry-init : goal.list_entries-loop-entry-init
 list_entries-loop-entry-init t c =
-    entries_first as_lines (entries_lines c.args.path.now) (slot_lines c.args.path.now) (lines_made c.args.path.now) (slots_tree c.args.slots.now) c.args.entries.now c.args.lister.now.out c.requires.shape
+    entries_first as_lines (entries_lines c.args.path.now) (slot_lines c.args.path.now) (lines_made c.args.path.now) (slots_tree c.args.slots.now) c.args.entries.now c.args.lister.now.out.octets c.requires.shape
 
 pub list_entries-loop-entry-preserved : goal.list_entries-loop-entry-preserved
 list_entries-loop-entry-preserved t c =
@@ -47,12 +47,12 @@ list_entries-loop-entry-preserved t c =
     let i : ℕ = c.loop-entry.entry-index in
     let e = c.entry-item.result in
     let same = c.as_slice-entry-items.ensures.members in
-    entry_next as_lines (slot_lines path) ss (entries_lines path 1 ss (entries_tree all)) c.args.lister.now.out c.loop-entry.lister.out c.list_entry.new.lister.out all i e c.loop-entry.invariant
+    entry_next as_lines (slot_lines path) ss (entries_lines path 1 ss (entries_tree all)) c.args.lister.now.out.octets c.loop-entry.lister.out.octets c.list_entry.new.lister.out.octets all i e c.loop-entry.invariant
     (subst (λ xs. i < length xs) same c.loop-entry-test.true) (subst (λ xs. e ≡ get_or xs i e) same c.entry-item.is) (search rules)
 
 pub list_counted-returns : goal.list_counted-returns
 list_counted-returns t c =
-    last_put c.list_each.result c.list_each.ensures (λ h. counted_lines c.args.path.now (kind_tree c.args.inner.now) c.args.values.now c.count.result c.args.lister.now.out c.list_count.new.lister.out c.list_each.new.lister.out c.count.ensures c.in_ok-list_count.ensures h)
+    last_put c.list_each.result c.list_each.ensures (λ h. counted_lines c.args.path.now (kind_tree c.args.inner.now) c.args.values.now c.count.result c.args.lister.now.out.octets c.list_count.new.lister.out.octets c.list_each.new.lister.out.octets c.count.ensures c.in_ok-list_count.ensures h)
 
 pub list_entries-list_entry-requires : goal.list_entries-list_entry-requires
 list_entries-list_entry-requires t c =
@@ -66,7 +66,7 @@ list_entries-list_entry-requires t c =
     let is : e ≡ get_or all i e = subst (λ xs. e ≡ get_or xs i e) same c.entry-item.is in
     let small = at_most the_size all i e within in
     let same_size : the_size e ≡ the_size (get_or all i e) = ap the_size is in
-    (omega (arith, small, same_size, c.decreases), (slot_listable ss e.slot c.requires.listable, entry_shape as_lines (slot_lines path) ss (entries_lines path 1 ss (entries_tree all)) c.args.lister.now.out c.loop-entry.lister.out all i e c.loop-entry.invariant within is))
+    (omega (arith, small, same_size, c.decreases), (slot_listable ss e.slot c.requires.listable, entry_shape as_lines (slot_lines path) ss (entries_lines path 1 ss (entries_tree all)) c.args.lister.now.out.octets c.loop-entry.lister.out.octets all i e c.loop-entry.invariant within is))
 
 pub list_compound-returns : goal.list_compound-returns
 list_compound-returns t c =
@@ -77,7 +77,7 @@ list_entries-returns t c =
     let all = c.args.entries.now in
     let ss = slots_tree c.args.slots.now in
     let path = c.args.path.now in
-    entries_ended as_lines (slot_lines path) ss (entries_lines path 1 ss (entries_tree all)) c.args.lister.now.out c.loop-entry.lister.out all c.loop-entry.entry-index c.loop-entry.invariant
+    entries_ended as_lines (slot_lines path) ss (entries_lines path 1 ss (entries_tree all)) c.args.lister.now.out.octets c.loop-entry.lister.out.octets all c.loop-entry.entry-index c.loop-entry.invariant
     (subst (λ xs. length xs ≤ c.loop-entry.entry-index) c.as_slice-entry-items.ensures.members c.loop-entry-test.false)
 
 pub list_each-list_kind-requires : goal.list_each-list_kind-requires
@@ -92,4 +92,4 @@ list_each-list_kind-requires t c =
     let is : v ≡ get_or all i v = subst (λ xs. v ≡ get_or xs i v) same c.value-item.is in
     let small = at_most values.the_size all i v within in
     let same_size : values.the_size v ≡ values.the_size (get_or all i v) = ap values.the_size is in
-    (omega (arith, small, same_size, c.decreases), (c.requires.listable, each_shape (Shape k) (kind_lines k) path (each_lines (kind_lines k) path 0 (values_tree all)) c.args.lister.now.out c.loop-value.lister.out i all v c.loop-value.invariant.left within is))
+    (omega (arith, small, same_size, c.decreases), (c.requires.listable, each_shape (Shape k) (kind_lines k) path (each_lines (kind_lines k) path 0 (values_tree all)) c.args.lister.now.out.octets c.loop-value.lister.out.octets i all v c.loop-value.invariant.left within is))

@@ -11,10 +11,10 @@ use Rattle.ax_text.proofs.kinds.+list_kind.Given as goal
 abbrev pub invariant-list_each-loop-value : goal.invariant-list_each-loop-value
 invariant-list_each-loop-value l = record {
   counted : l.number ≡ l.value-index;
-  left : EachLeft (Shape (kind_tree l.kind)) (kind_lines (kind_tree l.kind)) l.path (each_lines (kind_lines (kind_tree l.kind)) l.path 0 (values_tree l.values)) l.fn.lister.out l.lister.out
+  left : EachLeft (Shape (kind_tree l.kind)) (kind_lines (kind_tree l.kind)) l.path (each_lines (kind_lines (kind_tree l.kind)) l.path 0 (values_tree l.values)) l.fn.lister.out.octets l.lister.out.octets
       l.value-index (drop l.value-index l.values);
 }
 
 abbrev pub invariant-list_entries-loop-entry : goal.invariant-list_entries-loop-entry
 invariant-list_entries-loop-entry l =
-    EntriesLeft as_lines (slot_lines l.path) (slots_tree l.slots) (entries_lines l.path 1 (slots_tree l.slots) (entries_tree l.entries)) l.fn.lister.out l.lister.out (drop l.entry-index l.entries)
+    EntriesLeft as_lines (slot_lines l.path) (slots_tree l.slots) (entries_lines l.path 1 (slots_tree l.slots) (entries_tree l.entries)) l.fn.lister.out.octets l.lister.out.octets (drop l.entry-index l.entries)

@@ -5,4 +5,4 @@ use Rattle.ax_text.proofs.ListedValues.{PartsLeft}
 use Rattle.ax_text.proofs.kinds.list_parts.Given as goal
 
 abbrev pub invariant-loop-part : goal.invariant-loop-part
-invariant-loop-part l = PartsLeft l.path (parts_lines (map part_tree l.parts) l.path (lists_tree l.lists)) l.fn.lister.out l.lister.out l.part-iterator.a.rest.now l.part-iterator.b.rest.now
+invariant-loop-part l = PartsLeft l.path (parts_lines (map part_tree l.parts) l.path (lists_tree l.lists)) l.fn.lister.out.octets l.lister.out.octets l.part-iterator.a.rest.now l.part-iterator.b.rest.now

@@ -15,7 +15,7 @@ loop-value-preserved c =
     let same = c.as_slice-value-items.ensures.members in
     record {
       counted = ap (λ n. n + 1) c.loop-value.invariant.counted;
-      left = each_next (FixedShape f) (fixed_lines f) path (each_lines (fixed_lines f) path 0 (values_tree all)) c.args.lister.now.out c.loop-value.lister.out i all v c.in_ok-inner.inner c.list_fixed.new.lister.out c.loop-value.invariant.left
+      left = each_next (FixedShape f) (fixed_lines f) path (each_lines (fixed_lines f) path 0 (values_tree all)) c.args.lister.now.out.octets c.loop-value.lister.out.octets i all v c.in_ok-inner.inner c.list_fixed.new.lister.out.octets c.loop-value.invariant.left
           (subst (λ xs. i < length xs) same c.loop-value-test.true) (subst (λ xs. v ≡ get_or xs i v) same c.value-item.is) (c.in_ok-inner.ensures ∙ ap (occurrence path) c.loop-value.invariant.counted) (search rules);
     }
 
@@ -24,5 +24,5 @@ returns c =
     let all = c.args.values.now in
     let f = fixed_tree c.args.fixed.now in
     let path = c.args.path.now in
-    each_ended (FixedShape f) (fixed_lines f) path (each_lines (fixed_lines f) path 0 (values_tree all)) c.args.lister.now.out c.loop-value.lister.out c.loop-value.value-index all c.loop-value.invariant.left
+    each_ended (FixedShape f) (fixed_lines f) path (each_lines (fixed_lines f) path 0 (values_tree all)) c.args.lister.now.out.octets c.loop-value.lister.out.octets c.loop-value.value-index all c.loop-value.invariant.left
     (subst (λ xs. length xs ≤ c.loop-value.value-index) c.as_slice-value-items.ensures.members c.loop-value-test.false)

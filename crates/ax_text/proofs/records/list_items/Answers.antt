@@ -10,7 +10,7 @@ use Rattle.ax_text.proofs.records.list_items.Goals as goal
 
 pub loop-entry-init : goal.loop-entry-init
 loop-entry-init c =
-    entries_first as_lines (entries_lines c.args.path.now) (slot_lines c.args.path.now) (lines_made c.args.path.now) (record_slots (spec_tree c.args.spec.now)) c.args.entries.now c.args.lister.now.out c.requires.shape
+    entries_first as_lines (entries_lines c.args.path.now) (slot_lines c.args.path.now) (lines_made c.args.path.now) (record_slots (spec_tree c.args.spec.now)) c.args.entries.now c.args.lister.now.out.octets c.requires.shape
 
 pub list_item-requires : goal.list_item-requires
 list_item-requires c =
@@ -21,7 +21,7 @@ list_item-requires c =
     let e = c.entry-item.result in
     let same = c.as_slice-entry-items.ensures.members in record {
       listable = slot_listable ss e.slot c.requires.listable;
-      shape = entry_shape as_lines (slot_lines path) ss (entries_lines path 1 ss (entries_tree all)) c.args.lister.now.out c.loop-entry.lister.out all i e c.loop-entry.invariant
+      shape = entry_shape as_lines (slot_lines path) ss (entries_lines path 1 ss (entries_tree all)) c.args.lister.now.out.octets c.loop-entry.lister.out.octets all i e c.loop-entry.invariant
           (subst (λ xs. i < length xs) same c.loop-entry-test.true) (subst (λ xs. e ≡ get_or xs i e) same c.entry-item.is);
     }
 
@@ -33,5 +33,5 @@ loop-entry-preserved c =
     let i : ℕ = c.loop-entry.entry-index in
     let e = c.entry-item.result in
     let same = c.as_slice-entry-items.ensures.members in
-    entry_next as_lines (slot_lines path) ss (entries_lines path 1 ss (entries_tree all)) c.args.lister.now.out c.loop-entry.lister.out c.list_item.new.lister.out all i e c.loop-entry.invariant
+    entry_next as_lines (slot_lines path) ss (entries_lines path 1 ss (entries_tree all)) c.args.lister.now.out.octets c.loop-entry.lister.out.octets c.list_item.new.lister.out.octets all i e c.loop-entry.invariant
     (subst (λ xs. i < length xs) same c.loop-entry-test.true) (subst (λ xs. e ≡ get_or xs i e) same c.entry-item.is) c.in_ok-list_item.ensures

@@ -9,4 +9,4 @@ use Rattle.ax_text.proofs.records.list_items.Given as goal
 
 abbrev pub invariant-loop-entry : goal.invariant-loop-entry
 invariant-loop-entry l =
-    EntriesLeft as_lines (slot_lines l.path) (record_slots (spec_tree l.spec)) (entries_lines l.path 1 (record_slots (spec_tree l.spec)) (entries_tree l.entries)) l.fn.lister.out l.lister.out (drop l.entry-index l.entries)
+    EntriesLeft as_lines (slot_lines l.path) (record_slots (spec_tree l.spec)) (entries_lines l.path 1 (record_slots (spec_tree l.spec)) (entries_tree l.entries)) l.fn.lister.out.octets l.lister.out.octets (drop l.entry-index l.entries)

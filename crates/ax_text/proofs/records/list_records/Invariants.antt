@@ -7,5 +7,5 @@ use Rattle.ax_text.proofs.records.list_records.Given as goal
 abbrev pub invariant-loop-one : goal.invariant-loop-one
 invariant-loop-one l = record {
   counted : l.number ≡ l.one-index;
-  left : RecordsLeft (spec_tree l.spec) (records_lines (spec_tree l.spec) 0 (records_tree l.records)) l.fn.lister.out l.lister.out l.one-index (drop l.one-index l.records);
+  left : RecordsLeft (spec_tree l.spec) (records_lines (spec_tree l.spec) 0 (records_tree l.records)) l.fn.lister.out.octets l.lister.out.octets l.one-index (drop l.one-index l.records);
 }

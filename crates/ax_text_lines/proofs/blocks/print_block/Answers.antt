@@ -8,5 +8,5 @@ returns-clause-printed c =
     let body = c.in_ok-print_body.ensures.records in record {
       records = body.records;
       spelled = body.spelled;
-      is = read_line spec c.args.raw.now.category body.records c.begin.new.self c.category.new.self c.open.new.self c.print_body.new.line c.close.new.self c.end.new.self c.in_ok-begin.ensures c.in_ok-category.ensures c.in_ok-open.ensures body.put c.in_ok-close.ensures c.in_ok-end.ensures;
+      is = read_line spec c.args.raw.now.category body.records c.begin.new.self.octets c.category.new.self.octets c.open.new.self.octets c.print_body.new.line.octets c.close.new.self.octets c.end.new.self.octets c.in_ok-begin.ensures.begun c.in_ok-category.ensures.appended c.in_ok-open.ensures.appended body.put c.in_ok-close.ensures.appended c.in_ok-end.ensures.appended;
     }

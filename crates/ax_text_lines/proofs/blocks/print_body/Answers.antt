@@ -8,16 +8,16 @@ pub returns-in_err-at-clause-fault : goal.returns-in_err-at-clause-fault
 returns-in_err-at-clause-fault c =
     let spec = spec_tree c.args.items.now in
     let e = c.in_err-at.field-0.0 in
-    names_passed spec c.args.body.now c.from_residual.result e c.from_residual.ensures.1 (records_fault spec c.args.body.now c.loop-at.at c.args.line.now c.loop-at.line e c.requires.spec c.loop-at.invariant c.loop-at-test.true c.in_err-at.ensures.err)
+    names_passed spec c.args.body.now c.from_residual.result e c.from_residual.ensures.1 (records_fault spec c.args.body.now c.loop-at.at c.args.line.now.octets c.loop-at.line.octets e c.requires.spec c.loop-at.invariant c.loop-at-test.true c.in_err-at.ensures.err)
 
 pub loop-at-smaller : goal.loop-at-smaller
 loop-at-smaller c =
-    let on : c.loop-at.at < c.in_ok-at.at = record_forwards (spec_tree c.args.items.now) c.args.body.now c.loop-at.at c.in_ok-at.at c.loop-at.line c.print_record.new.line c.requires.spec c.in_ok-at.ensures.ok in
+    let on : c.loop-at.at < c.in_ok-at.at = record_forwards (spec_tree c.args.items.now) c.args.body.now c.loop-at.at c.in_ok-at.at c.loop-at.line.octets c.print_record.new.line.octets c.requires.spec c.in_ok-at.ensures.ok in
     omega (arith, c.loop-at-test.true)
 
 pub loop-at-preserved : goal.loop-at-preserved
 loop-at-preserved c =
-    records_more (spec_tree c.args.items.now) c.args.body.now c.loop-at.at c.in_ok-at.at c.args.line.now c.loop-at.line c.print_record.new.line c.requires.spec c.loop-at.invariant c.in_ok-at.ensures.ok
+    records_more (spec_tree c.args.items.now) c.args.body.now c.loop-at.at c.in_ok-at.at c.args.line.now.octets c.loop-at.line.octets c.print_record.new.line.octets c.requires.spec c.loop-at.invariant c.in_ok-at.ensures.ok
 
 pub returns-clause-records : goal.returns-clause-records
-returns-clause-records c = records_all (spec_tree c.args.items.now) c.args.body.now c.loop-at.at c.args.line.now c.loop-at.line c.loop-at.invariant c.loop-at-test.false c.requires.some
+returns-clause-records c = records_all (spec_tree c.args.items.now) c.args.body.now c.loop-at.at c.args.line.now.octets c.loop-at.line.octets c.loop-at.invariant c.loop-at-test.false c.requires.some

@@ -3,7 +3,7 @@ use mir.Syntax.{named}
 use Rattle.ax_held_kinds.proofs.MarkedSlots.{marks_clear}
 use Rattle.ax_held_kinds.specs.Fields.{MarksOf, FailsToMarkOf}
 use Rattle.ax_text_lines.proofs.held.TextSlot.TheLaws.{the_size}
-use Rattle.std.proofs.Common.{◌≡◌, ◌-◌, ◌<◌, ℕ, List, [], length, map, get_or, ap, arith, subst, sym, ◌∙◌}
+use Rattle.std.proofs.Common.{◌≡◌, ◌+◌, ◌-◌, ◌<◌, ℕ, List, [], length, map, get_or, ap, arith, subst, sym, ◌∙◌}
 use Rattle.std.proofs.lemmas.List.{length-map}
 use Rattle.ax_format.proofs.Bounds.{count_of_slots}
 use Rattle.ax_text_lines.specs.HeldText.{text_kind, text_slot}
@@ -11,7 +11,7 @@ use Rattle.ax_text_lines.specs.declared.held.TextSlot.{TextSlot}
 use Rattle.ax_format.specs.Tree.{SlotTree, counted, compound, slots_of, slot_count}
 use Rattle.ax_values.proofs.Continuing.{err_by_fault, err_is}
 use Rattle.ax_fspec.proofs.Counting.{counted_none}
-use Rattle.ax_text_lines.proofs.Counted.{counted_goes_on, counted_failed}
+use Rattle.ax_text_lines.proofs.Counted.{CountedLeads, counted_opens, counted_goes_on, counted_failed}
 use Rattle.ax_fspec.proofs.Marking.{field_failed, map_at, marks_bits, slot_bounds}
 use Rattle.ax_text_form.specs.Slots.{slot_numbered}
 use Rattle.ax_text_lines.proofs.Marked.{at_number, marks_begin, next_slot, marks_next, marks_failed, marks_last, compound_printed}
@@ -20,6 +20,11 @@ use Rattle.ax_values.specs.SlotReading.{HasSlotFailed}
 use Rattle.ax_values.proofs.Marking.{compound_failed}
 use Rattle.ax_fspec.specs.Reading.{kind_read, entries_at}
 use Rattle.ax_text_lines.proofs.kinds.+print_kind.Goals as goal
+
+pub print_counted-loop-init : goal.print_counted-loop-init
+print_counted-loop-init t c =
+    subst (λ n. CountedLeads c.args.size (text_kind c.args.inner.now) c.args.body.now c.in_ok-count.count 0 c.args.at (c.args.at + n) c.args.line.now.octets c.open.new.self.octets) (sym c.octets.ensures)
+    (counted_opens _ _ _ _ _ _ _ c.in_ok-count.ensures.count c.in_ok-open.ensures.appended)
 
 pub print_counted-returns-in_err-count-clause-err : goal.print_counted-returns-in_err-count-clause-err
 print_counted-returns-in_err-count-clause-err t c =
@@ -33,11 +38,11 @@ print_counted-returns-in_err-here-clause-err t c =
     let k = text_kind c.args.inner.now in
     let e = c.in_err-here.field-0.0 in
     err_is (kind_read (counted c.args.size k) c.args.body.now c.args.at) c.args.at c.from_residual-in_err-here.result e c.from_residual-in_err-here.ensures.1
-    (counted_failed c.args.size k c.args.body.now c.in_ok-count.count c.loop.counter c.args.at c.loop.here c.args.line.now c.loop.line e c.loop.invariant c.loop-test.true c.in_err-here.ensures.err)
+    (counted_failed c.args.size k c.args.body.now c.in_ok-count.count c.loop.counter c.args.at c.loop.here c.args.line.now.octets c.loop.line.octets e c.loop.invariant c.loop-test.true c.in_err-here.ensures.err)
 
 pub print_counted-loop-preserved : goal.print_counted-loop-preserved
 print_counted-loop-preserved t c =
-    counted_goes_on c.args.size (text_kind c.args.inner.now) c.args.body.now c.in_ok-count.count c.loop.counter c.args.at c.loop.here c.in_ok-here.here c.args.line.now c.loop.line c.print_value.new.line c.loop.invariant c.loop-test.true c.in_ok-here.ensures.ok
+    counted_goes_on c.args.size (text_kind c.args.inner.now) c.args.body.now c.in_ok-count.count c.loop.counter c.args.at c.loop.here c.in_ok-here.here c.args.line.now.octets c.loop.line.octets c.print_value.new.line.octets c.loop.invariant c.loop-test.true c.in_ok-here.ensures.ok
 
 -- ---- compounds
 
@@ -72,12 +77,12 @@ pub print_compound-returns-clause-ok : goal.print_compound-returns-clause-ok
 print_compound-returns-clause-ok t c =
     let slots : List SlotTree = map text_slot c.args.slots.now in
     let m = subst (λ xs. MarksOf (map text_slot xs) c.args.body.now c.args.at c.in_ok-here.here c.read_field.new.into) c.as_slice-all.ensures.members c.in_ok-here.ensures.ok in
-    compound_printed slots m.mask c.args.body.now c.read_field.new.into c.args.at c.in_ok-here.here c.in_ok-end.end c.args.line.now c.open.new.self c.print_marked.new.line c.close.new.self c.requires.bounds m.is m.marks c.in_ok-open.ensures c.in_ok-end.ensures.ok c.in_ok-close.ensures
+    compound_printed slots m.mask c.args.body.now c.read_field.new.into c.args.at c.in_ok-here.here c.in_ok-end.end c.args.line.now.octets c.open.new.self.octets c.print_marked.new.line.octets c.close.new.self.octets c.requires.bounds m.is m.marks c.in_ok-open.ensures.appended c.in_ok-end.ensures.ok c.in_ok-close.ensures.appended
 
 -- ---- marked slots
 
 pub print_marked-loop-number-init : goal.print_marked-loop-number-init
-print_marked-loop-number-init t c = marks_begin (map text_slot c.args.slots.now) c.args.marked.now c.args.body.now c.args.at c.args.line.now c.requires.clear c.requires.marks c.requires.at
+print_marked-loop-number-init t c = marks_begin (map text_slot c.args.slots.now) c.args.marked.now c.args.body.now c.args.at c.args.line.now.octets c.requires.clear c.requires.marks c.requires.at
 
 pub print_marked-bounds-all-number : goal.print_marked-bounds-all-number
 print_marked-bounds-all-number t c =
@@ -120,7 +125,7 @@ print_marked-returns-in_err-here-clause-err t c =
     let body = c.args.body.now in
     let e = c.in_err-here.field-0.0 in
     err_is (entries_at (slots_of slots) c.args.marked.now body c.args.at) c.args.at c.from_residual.result e c.from_residual.ensures.1
-    (marks_failed slots c.args.marked.now c.loop-number.left c.take_first.new.self body number c.args.at c.loop-number.here c.args.line.now c.loop-number.line h n e (subst (λ slot. HasSlotFailed slot body c.loop-number.here e) (sym slot_is) c.in_err-here.ensures.err))
+    (marks_failed slots c.args.marked.now c.loop-number.left c.take_first.new.self body number c.args.at c.loop-number.here c.args.line.now.octets c.loop-number.line.octets h n e (subst (λ slot. HasSlotFailed slot body c.loop-number.here e) (sym slot_is) c.in_err-here.ensures.err))
 
 pub print_marked-loop-number-preserved : goal.print_marked-loop-number-preserved
 print_marked-loop-number-preserved t c =
@@ -135,9 +140,9 @@ print_marked-loop-number-preserved t c =
     let is : s ≡ get_or all (number - 1) s = subst (λ xs. s ≡ get_or xs (number - 1) s) same c.index-all-number.is in
     let slot_is : slot_numbered (slots_of slots) number ≡ text_slot s = at_number slots number (text_slot s) c.in-Some.ensures.within.0 n.within (map_at text_slot all (number - 1) s is) in
     let body = c.args.body.now in
-    marks_next slots c.args.marked.now c.loop-number.left c.take_first.new.self body number c.args.at c.loop-number.here c.args.line.now c.loop-number.line h n c.in_ok-here.here c.print_slot.new.line
-    (subst (λ slot. IsSlotPrinted slot body c.loop-number.here c.in_ok-here.here c.loop-number.line c.print_slot.new.line) (sym slot_is) c.in_ok-here.ensures.ok)
+    marks_next slots c.args.marked.now c.loop-number.left c.take_first.new.self body number c.args.at c.loop-number.here c.args.line.now.octets c.loop-number.line.octets h n c.in_ok-here.here c.print_slot.new.line.octets
+    (subst (λ slot. IsSlotPrinted slot body c.loop-number.here c.in_ok-here.here c.loop-number.line.octets c.print_slot.new.line.octets) (sym slot_is) c.in_ok-here.ensures.ok)
 
 pub print_marked-returns-clause-ok : goal.print_marked-returns-clause-ok
 print_marked-returns-clause-ok t c =
-    marks_last (map text_slot c.args.slots.now) c.args.marked.now c.loop-number.left c.args.body.now c.args.at c.loop-number.here c.args.line.now c.loop-number.line c.loop-number.invariant c.in_default.ensures.none
+    marks_last (map text_slot c.args.slots.now) c.args.marked.now c.loop-number.left c.args.body.now c.args.at c.loop-number.here c.args.line.now.octets c.loop-number.line.octets c.loop-number.invariant c.in_default.ensures.none

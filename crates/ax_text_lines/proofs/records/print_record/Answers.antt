@@ -39,9 +39,9 @@ returns-clause-ok c =
     let marks = c.read_presence.new.into in
     let here = c.in_ok-here.here in
     let end = c.in_ok-end.end in
-    let put = subst (λ slots. Prints (slots_onto (slots_of slots)) (entries_at (slots_of slots) marks body here) body here end c.open.new.self c.print_marked.new.line) c.slots.ensures c.in_ok-end.ensures.ok in
-    record_printed (spec_tree c.args.items.now) c.args.mask.now body marks c.args.at here end c.args.line.now c.text.new.self c.open.new.self c.print_marked.new.line c.close.new.self
-    c.requires.spec c.requires.mask c.in_ok-here.ensures.ok c.in_ok-text.ensures c.in_ok-open.ensures put c.in_ok-close.ensures
+    let put = subst (λ slots. Prints (slots_onto (slots_of slots)) (entries_at (slots_of slots) marks body here) body here end c.open.new.self.octets c.print_marked.new.line.octets) c.slots.ensures c.in_ok-end.ensures.ok in
+    record_printed (spec_tree c.args.items.now) c.args.mask.now body marks c.args.at here end c.args.line.now.octets c.text.new.self.octets c.open.new.self.octets c.print_marked.new.line.octets c.close.new.self.octets
+    c.requires.spec c.requires.mask c.in_ok-here.ensures.ok c.in_ok-text.ensures.appended c.in_ok-open.ensures.appended put c.in_ok-close.ensures.appended
 
 pub print_marked-requires-clause-bounds : goal.print_marked-requires-clause-bounds
 print_marked-requires-clause-bounds c = subst (λ slots. SlotsInBounds (slots_of slots)) (sym c.slots.ensures) (record_bounds (spec_tree c.args.items.now) c.requires.spec).2

@@ -10,7 +10,7 @@ print_block-requires-clause-mask g c = masked c.in-Some.table.now
 
 pub returns-in-Ok-clause-takes : goal.returns-in-Ok-clause-takes
 returns-in-Ok-clause-takes g c =
-    text_printed _ _ _ _ _ _ c.requires.sound c.get.result c.get.ensures.spec c.in-Some.table _ c.print_block.new.line _ _ c.in-Some.is c.args.raw.now.within_block c.in-Ok.ensures.printed c.octets.ensures c.write_piece.ensures
+    text_printed _ _ _ _ _ _ c.requires.sound c.get.result c.get.ensures.spec c.in-Some.table _ c.print_block.new.line.octets _ _ c.in-Some.is c.args.raw.now.within_block c.in-Ok.ensures.printed c.octets.ensures c.write_piece.ensures
 
 pub returns-in-Err-Fault-clause-takes : goal.returns-in-Err-Fault-clause-takes
 returns-in-Err-Fault-clause-takes g c =
@@ -19,4 +19,4 @@ returns-in-Err-Fault-clause-takes g c =
 
 pub returns-in-Ok-print_opaque-clause-takes : goal.returns-in-Ok-print_opaque-clause-takes
 returns-in-Ok-print_opaque-clause-takes g c =
-    text_opaque _ _ _ _ _ _ c.requires.sound c.get.result c.get.ensures.spec _ c.print_opaque.new.line _ _ c.in-None.is c.args.raw.now.within_block c.args.raw.now.nonempty c.in-Ok-print_opaque.ensures c.octets-in-Ok-print_opaque.ensures c.write_piece-in-Ok-print_opaque.ensures
+    text_opaque _ _ _ _ _ _ c.requires.sound c.get.result c.get.ensures.spec _ c.print_opaque.new.line.octets _ _ c.in-None.is c.args.raw.now.within_block c.args.raw.now.nonempty c.in-Ok-print_opaque.ensures c.octets-in-Ok-print_opaque.ensures c.write_piece-in-Ok-print_opaque.ensures

@@ -1,4 +1,5 @@
-"""Tries where what the program writes goes: outputs and reports that fail, both in one pipe, a live pipe, and a small stack.
+"""Tries where what the program writes goes: outputs and reports that fail, want of memory beside them, both in one pipe, a live pipe, and
+a small stack.
 
 Each case runs first where both can be written. What is due where one of them can't is made of that: prefixes of it, by what stands by hand
 in the case. An output that fails is /dev/full or a pipe that nobody reads; so is a report.
@@ -23,6 +24,9 @@ WAITING = 20
 # The octets of stack that the program is to do with: an eighth of what is usual. A block that is split needs the most, less than half of it.
 STACK = 1 << 20
 FAULT = "fault write\n"
+# The least and the greatest address space between which the need of a run is sought, and how exactly it is found.
+SOUGHT = (1 << 20, 1 << 28)
+STEP = 1 << 16
 
 
 class Case(typing.NamedTuple):
@@ -40,6 +44,8 @@ class Case(typing.NamedTuple):
     first: int = 0
     # What stands as standard input in place of the pieces.
     source: str = ""
+    # The octets of address space that the run has; as many as it asks for where this is 0.
+    memory: int = 0
 
 
 class Ran(typing.NamedTuple):
@@ -135,6 +141,30 @@ def salvaged(often: int) -> typing.Iterator[Case]:
     yield Case(words, between, 0, [damaged, f"salvaged 048 written {2 * often} refused 1\n"], 1, 0, often)
 
 
+def least_memory(room: str, case: Case) -> int:
+    """An address space with which a case ends as it does with any, to a step above the least."""
+    too_little, enough = SOUGHT
+    while enough - too_little > STEP:
+        middle = (too_little + enough) // 2
+        if run(room, case._replace(memory=middle), case.pieces).status == case.status:
+            enough = middle
+        else:
+            too_little = middle
+    return enough
+
+
+def without_memory(room: str) -> typing.Iterator[Case]:
+    """Want of memory before a block is read, and behind many blocks: at one that needs room of its own."""
+    wanting = ["refused memory\n"]
+    canon = Case(["canon", "048-P1"], [SOUND], 0, [])
+    yield canon._replace(status=5, report=wanting, own=1, memory=least_memory(room, canon) - 2 * STEP)
+    body = b"\x01\x20\xff" + b"\x07" * 8 * 255
+    large = b"\x30" + (3 + 32 * len(body)).to_bytes(2, "big") + body * 32
+    for command, often in itertools.product(("show", "text"), (1, OFTEN)):
+        before = Case([command, "048-P1"], [SOUND] * often, 0, [])
+        yield Case(before.words, [*before.pieces, large], 5, wanting, own=1, memory=least_memory(room, before))
+
+
 def closed_pipe() -> int:
     """The end of a pipe that nobody reads."""
     reading, writing = os.pipe()
@@ -151,7 +181,13 @@ def run(room: str, case: Case, pieces: list[bytes], output: int = subprocess.PIP
     """Runs a case's words on these pieces."""
     source = pathlib.Path(room) / "input"
     source.write_bytes(b"".join(pieces))
-    limit = (lambda: resource.setrlimit(resource.RLIMIT_STACK, (stack, stack))) if stack else None
+    limits = [(resource.RLIMIT_STACK, stack), (resource.RLIMIT_AS, case.memory)]
+
+    def limit() -> None:
+        for what, most in limits:
+            if most:
+                resource.setrlimit(what, (most, most))
+
     standard = os.open(os.path.join(room, case.source) if case.source else source, os.O_RDONLY)
     try:
         done = subprocess.run(
@@ -360,6 +396,8 @@ def main() -> bool:
             (pathlib.Path(room) / name).symlink_to(TOP / file)
         rare_files(room)
         for case in cases():
+            try_case(room, case, faults)
+        for case in without_memory(room):
             try_case(room, case, faults)
         for case in live_cases():
             live(room, case, faults)

@@ -1,6 +1,8 @@
-//! What the words ask for.
+//! What the words ask for: a row for each command in each of its tables.
 ghost use Rattle.std.specs.Prelude.{◌≡◌, IfOk};
+ghost use Rattle.ax_words.specs.Verbs.{name_of, shape_of};
 
+use crate::shape::Shape;
 use ax_lists::Sequence;
 use std::alloc::{AllocError, Global};
 use std::marker::Model;
@@ -45,7 +47,78 @@ impl WordText {
 /// Words in their order, fewer than 2^32 of them.
 pub type WordTexts = Sequence<WordText>;
 
-/// What the words ask for: one variant for each shape.
+/// What a command does, by its first word.
+#[derive(Clone, Copy)]
+pub(crate) enum Verb {
+    Check,
+    Canon,
+    Show,
+    Text,
+    Build,
+    Filter,
+    Migrate,
+    Trial,
+    Salvage,
+    Expand,
+    Convert,
+}
+
+/// Every verb, once.
+pub(crate) const VERBS: [Verb; 11] = [
+    Verb::Check,
+    Verb::Canon,
+    Verb::Show,
+    Verb::Text,
+    Verb::Build,
+    Verb::Filter,
+    Verb::Migrate,
+    Verb::Trial,
+    Verb::Salvage,
+    Verb::Expand,
+    Verb::Convert,
+];
+
+impl Verb {
+    /// The word that names it.
+    pub(crate) fn name(self) -> &'static str
+        ensures { result.now ≡ name_of self }
+    {
+        match self {
+            Verb::Check => "check",
+            Verb::Canon => "canon",
+            Verb::Show => "show",
+            Verb::Text => "text",
+            Verb::Build => "build",
+            Verb::Filter => "filter",
+            Verb::Migrate => "migrate",
+            Verb::Trial => "trial",
+            Verb::Salvage => "salvage",
+            Verb::Expand => "expand",
+            Verb::Convert => "convert",
+        }
+    }
+
+    /// The shape of the words after it.
+    pub(crate) fn shape(self) -> Shape
+        ensures { result ≡ shape_of self }
+    {
+        match self {
+            Verb::Check => Shape::OneFile,
+            Verb::Canon => Shape::Catalogue,
+            Verb::Show => Shape::Catalogue,
+            Verb::Text => Shape::Catalogue,
+            Verb::Build => Shape::Catalogue,
+            Verb::Filter => Shape::Expression,
+            Verb::Migrate => Shape::Editions,
+            Verb::Trial => Shape::Numbers,
+            Verb::Salvage => Shape::Catalogue,
+            Verb::Expand => Shape::Expansion,
+            Verb::Convert => Shape::Editions,
+        }
+    }
+}
+
+/// What the words ask for: one variant for each command.
 pub enum Line {
     /// `check SPEC`
     Check {

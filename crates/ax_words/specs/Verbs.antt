@@ -12,32 +12,25 @@ use Rattle.ax_words.specs.declared.shape.Shape.TheVariants.{OneFile, Catalogue, 
 abbrev pub verbs : List Verb
 verbs = Check ∷ Canon ∷ Show ∷ Text ∷ Build ∷ Filter ∷ Migrate ∷ Trial ∷ Salvage ∷ Expand ∷ Convert ∷ []
 
-abbrev pub name_of : Verb → List ℕ
-name_of Check = codes "check"
-name_of Canon = codes "canon"
-name_of Show = codes "show"
-name_of Text = codes "text"
-name_of Build = codes "build"
-name_of Filter = codes "filter"
-name_of Migrate = codes "migrate"
-name_of Trial = codes "trial"
-name_of Salvage = codes "salvage"
-name_of Expand = codes "expand"
-name_of Convert = codes "convert"
+-- the word that names each, and the shape of the words after it
+abbrev pub usage_of : Verb → List ℕ × Shape
+usage_of Check = (codes "check", OneFile)
+usage_of Canon = (codes "canon", Catalogue)
+usage_of Show = (codes "show", Catalogue)
+usage_of Text = (codes "text", Catalogue)
+usage_of Build = (codes "build", Catalogue)
+usage_of Filter = (codes "filter", Expression)
+usage_of Migrate = (codes "migrate", Editions)
+usage_of Trial = (codes "trial", Numbers)
+usage_of Salvage = (codes "salvage", Catalogue)
+usage_of Expand = (codes "expand", Expansion)
+usage_of Convert = (codes "convert", Editions)
 
--- the shape of the words after it
+abbrev pub name_of : Verb → List ℕ
+name_of verb = (usage_of verb).0
+
 abbrev pub shape_of : Verb → Shape
-shape_of Check = OneFile
-shape_of Canon = Catalogue
-shape_of Show = Catalogue
-shape_of Text = Catalogue
-shape_of Build = Catalogue
-shape_of Filter = Expression
-shape_of Migrate = Editions
-shape_of Trial = Numbers
-shape_of Salvage = Catalogue
-shape_of Expand = Expansion
-shape_of Convert = Editions
+shape_of verb = (usage_of verb).1
 
 -- what the words of a line say: a verb with its arguments, or a word that stands alone
 pub data Said : Type 0 where

@@ -79,42 +79,38 @@ pub(crate) const VERBS: [Verb; 11] = [
 ];
 
 impl Verb {
+    /// The word that names it, and the shape of the words after it.
+    fn usage(self) -> (&'static str, Shape)
+        ensures name { result.0.now ≡ name_of self }
+        ensures shape { result.1 ≡ shape_of self }
+    {
+        match self {
+            Verb::Check => ("check", Shape::OneFile),
+            Verb::Canon => ("canon", Shape::Catalogue),
+            Verb::Show => ("show", Shape::Catalogue),
+            Verb::Text => ("text", Shape::Catalogue),
+            Verb::Build => ("build", Shape::Catalogue),
+            Verb::Filter => ("filter", Shape::Expression),
+            Verb::Migrate => ("migrate", Shape::Editions),
+            Verb::Trial => ("trial", Shape::Numbers),
+            Verb::Salvage => ("salvage", Shape::Catalogue),
+            Verb::Expand => ("expand", Shape::Expansion),
+            Verb::Convert => ("convert", Shape::Editions),
+        }
+    }
+
     /// The word that names it.
     pub(crate) fn name(self) -> &'static str
         ensures { result.now ≡ name_of self }
     {
-        match self {
-            Verb::Check => "check",
-            Verb::Canon => "canon",
-            Verb::Show => "show",
-            Verb::Text => "text",
-            Verb::Build => "build",
-            Verb::Filter => "filter",
-            Verb::Migrate => "migrate",
-            Verb::Trial => "trial",
-            Verb::Salvage => "salvage",
-            Verb::Expand => "expand",
-            Verb::Convert => "convert",
-        }
+        self.usage().0
     }
 
     /// The shape of the words after it.
     pub(crate) fn shape(self) -> Shape
         ensures { result ≡ shape_of self }
     {
-        match self {
-            Verb::Check => Shape::OneFile,
-            Verb::Canon => Shape::Catalogue,
-            Verb::Show => Shape::Catalogue,
-            Verb::Text => Shape::Catalogue,
-            Verb::Build => Shape::Catalogue,
-            Verb::Filter => Shape::Expression,
-            Verb::Migrate => Shape::Editions,
-            Verb::Trial => Shape::Numbers,
-            Verb::Salvage => Shape::Catalogue,
-            Verb::Expand => Shape::Expansion,
-            Verb::Convert => Shape::Editions,
-        }
+        self.usage().1
     }
 }
 

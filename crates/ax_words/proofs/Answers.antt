@@ -18,15 +18,17 @@ use Rattle.clap.specs.declared.parser.matches.SubCommand.{SubCommand}
 use Rattle.clap.proofs.OnLiterals.{clap_on_literals}
 use Rattle.ax_words.specs.Commands.{program}
 use Rattle.ax_words.specs.Found.{found}
-use Rattle.ax_words.specs.Lines.{AreTaken, AnswersRows, HasFewFiles}
-use Rattle.ax_words.specs.Verbs.{name_of, verb_named}
+use Rattle.ax_words.specs.Lines.{AreTaken, IsLineOf, HasFewFiles}
+use Rattle.ax_words.specs.Verbs.{name_of, shape_of, verb_named}
 use Rattle.ax_words.specs.Words.{IsPlain, HasNoShape, JudgesWords}
 use Rattle.ax_words.specs.declared.error.WordsError.{WordsError}
 use Rattle.ax_words.specs.declared.line.Line.{Line}
-use Rattle.ax_words.specs.declared.verb.Verb.{Verb}
-use Rattle.ax_words.specs.declared.verb.Verb.TheVariants.{Check, Canon, Show, Text as Texts, Build, Filter, Migrate, Trial, Salvage, Expand, Convert}
+use Rattle.ax_words.specs.declared.line.Verb.{Verb}
+use Rattle.ax_words.specs.declared.shape.Shape.{Shape}
+use Rattle.ax_words.specs.declared.shape.Shape.TheVariants.{OneFile, Catalogue, Expression, Editions, Expansion, Numbers}
+use Rattle.ax_words.proofs.Lines.{judged}
 use Rattle.ax_words.proofs.Program.{Parsed, taken, refused, parsed}
-use Rattle.ax_words.proofs.Shapes.{named}
+use Rattle.ax_words.proofs.Verbs.{verb_row}
 
 abbrev Pair : Type 0
 Pair = Text × List Row
@@ -76,16 +78,16 @@ pub record Found (words : List Text) (name : Text) (rows : List Row) : Type 0 wh
   pub verb : Verb
   pub following : List Text
   pub words_are : words ≡ name_of verb ∷ following
-  pub taken_are : AreTaken verb following
+  pub taken_are : AreTaken (shape_of verb) following
   pub name_is : name ≡ name_of verb
-  pub rows_are : rows ≡ found verb following
+  pub rows_are : rows ≡ found (shape_of verb) following
 
 some_pair : (p q : Pair) → some p ≡ some q → p ≡ q
 some_pair p q e = cc
 
 found_pair : (words : List Text) (name : Text) (rows : List Row) → length words < 4294967296 → Parsed words → fault_of program words ≡ [] → some (name, rows) ≡ subcommand_of program words → Found words name rows
 found_pair words name rows few (taken v ws w p t f s) e g =
-    let same : ◌≡◌ {A = Pair} (name, rows) (name_of v, found v ws) = some_pair (name, rows) (name_of v, found v ws) (g ∙ s) in
+    let same : ◌≡◌ {A = Pair} (name, rows) (name_of v, found (shape_of v) ws) = some_pair (name, rows) (name_of v, found (shape_of v) ws) (g ∙ s) in
     record {
       verb = v;
       following = ws;
@@ -103,33 +105,28 @@ found_in a words m name rows few plain e fault matches n r =
     let pair = pair_is (subcommand_rows_of m) name rows (names_agree m (some name) n) r in
     found_pair words name rows few (parsed words plain few) (fault_is a words [] e fault) (pair ∙ matches_are a words m e matches)
 
-pub answers_line : (words : List Text) (name : Text) (rows : List Row) (v : Verb) (r : Result Line WordsError) → Found words name rows → verb_named name ≡ Some v → AnswersRows v rows r → JudgesWords words r
+pub answers_line : (words : List Text) (name : Text) (rows : List Row) (v : Verb) (r : Result Line WordsError) → Found words name rows → verb_named name ≡ Some v → IsLineOf v rows r → JudgesWords words r
 answers_line words name rows v r x e gives =
-    let named_by : some x.verb ≡ some v = sym (named x.verb) ∙ ap verb_named (sym x.name_is) ∙ e in
-    let same : x.verb ≡ v = cc in
-    subst (λ ws. JudgesWords ws r) (sym x.words_are) (subst (λ u. AnswersRows u rows r) (sym same) gives x.following x.taken_are x.rows_are)
+    let named_by : some x.verb ≡ some v = sym (verb_row x.verb).named ∙ ap verb_named (sym x.name_is) ∙ e in
+    let same : v ≡ x.verb = cc in
+    subst (λ ws. JudgesWords ws r) (sym x.words_are) (judged x.verb rows x.following r (subst (λ u. IsLineOf u rows r) same gives) x.taken_are x.rows_are)
 
 pub never_unnamed : (words : List Text) (name : Text) (rows : List Row) → Found words name rows → verb_named name ≡ None → ⊥
-never_unnamed words name rows x e = let bad : some x.verb ≡ None = sym (named x.verb) ∙ ap verb_named (sym x.name_is) ∙ e in cc
+never_unnamed words name rows x e = let bad : some x.verb ≡ None = sym (verb_row x.verb).named ∙ ap verb_named (sym x.name_is) ∙ e in cc
 
-few_files : (v : Verb) (ws : List Text) → suc (length ws) < 4294967296 → HasFewFiles (found v ws)
-few_files Check ws lt = omega (arith, lt)
-few_files Canon ws lt = omega (arith, lt)
-few_files Show ws lt = omega (arith, lt)
-few_files Texts ws lt = omega (arith, lt)
-few_files Build ws lt = omega (arith, lt)
-few_files Filter [] lt = omega arith
-few_files Filter (w ∷ ws) lt = omega (arith, lt)
-few_files Migrate ws lt = tt
-few_files Trial [] lt = omega arith
-few_files Trial (w ∷ ws) lt = omega arith
-few_files Salvage ws lt = omega (arith, lt)
-few_files Expand [] lt = omega arith
-few_files Expand (w ∷ ws) lt = omega arith
-few_files Convert ws lt = tt
+few_files : (s : Shape) (ws : List Text) → suc (length ws) < 4294967296 → HasFewFiles (found s ws)
+few_files OneFile ws lt = omega (arith, lt)
+few_files Catalogue ws lt = omega (arith, lt)
+few_files Expression [] lt = omega arith
+few_files Expression (w ∷ ws) lt = omega (arith, lt)
+few_files Editions ws lt = tt
+few_files Expansion [] lt = omega arith
+few_files Expansion (w ∷ ws) lt = omega arith
+few_files Numbers [] lt = omega arith
+few_files Numbers (w ∷ ws) lt = omega arith
 
 pub found_few : (words : List Text) (name : Text) (rows : List Row) → Found words name rows → HasFewFiles rows
-found_few words name rows x = subst HasFewFiles (sym x.rows_are) (few_files x.verb x.following x.taken_are.few)
+found_few words name rows x = subst HasFewFiles (sym x.rows_are) (few_files (shape_of x.verb) x.following x.taken_are.few)
 
 no_kind : (fault : Kinds) (e : Error) → fault ≡ [] → HasKind fault e → (kind_of e ≡ OutOfMemory → ⊥) → ⊥
 no_kind [] e f (inl h) n = n h

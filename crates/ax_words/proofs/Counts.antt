@@ -1,64 +1,40 @@
--- Which words clap takes after a verb, and what it finds: exactly as many as the verb takes.
-use Rattle.std.proofs.Common.{◌≡◌, ◌<◌, ◌≤◌, List, [], ◌∷◌, length, refl, codes, arith}
+-- Which words clap takes after a verb, and what it finds: exactly as many as the verb's shape takes.
+use Rattle.std.proofs.Common.{◌≡◌, ◌≤◌, List, [], ◌∷◌, length, refl, arith}
 use Rattle.std.specs.List.{AllByRecursion}
 use Rattle.clap.specs.Lexer.{usize_max}
-use Rattle.clap.specs.Simple.{Shape}
 use Rattle.clap.specs.Walk.{Row, Text}
-use Rattle.ax_words.specs.Commands.{shape_of_verb}
+use Rattle.ax_words.specs.Arguments.{TakesCount}
+use Rattle.ax_words.specs.Commands.{leaf_shape, rules_of}
 use Rattle.ax_words.specs.Found.{found}
-use Rattle.ax_words.specs.Verbs.{TakesWords}
 use Rattle.ax_words.specs.Words.{IsPlain}
-use Rattle.ax_words.specs.declared.verb.Verb.{Verb}
-use Rattle.ax_words.specs.declared.verb.Verb.TheVariants.{Check, Canon, Show, Text as Texts, Build, Filter, Migrate, Trial, Salvage, Expand, Convert}
-use Rattle.ax_words.proofs.Leaves.{fault, rows, one_none, one_one, one_rows, one_two, many, many_none, many_some, many_rows, filter_none, filter_one, filter_some, filter_rows, two, two_none, two_one, two_two, two_rows, two_three, expand_none, expand_one, expand_two, expand_rows, expand_three, three_none, three_one, three_two, three_three, three_rows, three_four}
+use Rattle.ax_words.specs.declared.shape.Shape.{Shape}
+use Rattle.ax_words.specs.declared.shape.Shape.TheVariants.{OneFile, Catalogue, Expression, Editions, Expansion, Numbers}
+use Rattle.ax_words.proofs.Leaves.{fault, rows, file_none, file_one, file_rows, file_two, catalogue_none, catalogue_some, catalogue_rows, expression_none, expression_one, expression_some, expression_rows, editions_none, editions_one, editions_two, editions_rows, editions_three, expansion_none, expansion_one, expansion_two, expansion_rows, expansion_three, numbers_none, numbers_one, numbers_two, numbers_three, numbers_rows, numbers_four}
 
 -- the words are taken, and these rows found, or they are refused
-pub data Leaf (s : Shape) (Takes : Type 0) (ws : List Text) (found : List Row) : Type 0 where
-  takes : Takes → fault s ws ≡ [] → rows s ws ≡ found → Leaf s Takes ws found
-  refuses : (Takes → ⊥) → (fault s ws ≡ [] → ⊥) → Leaf s Takes ws found
+pub data Leaf (s : Shape) (name : Text) (ws : List Text) : Type 0 where
+  takes : TakesCount s (length ws) → fault (leaf_shape name (rules_of s)) ws ≡ [] → rows (leaf_shape name (rules_of s)) ws ≡ found s ws → Leaf s name ws
+  refuses : (TakesCount s (length ws) → ⊥) → (fault (leaf_shape name (rules_of s)) ws ≡ [] → ⊥) → Leaf s name ws
 
-one_leaf : (ws : List Text) → AllByRecursion IsPlain ws → Leaf (shape_of_verb Check) (length ws ≡ 1) ws (found Check ws)
-one_leaf [] all = refuses (λ e. omega (arith, e)) (one_none (codes "check"))
-one_leaf (f ∷ []) all = takes refl (one_one (codes "check") f all.0) (one_rows (codes "check") f all.0)
-one_leaf (f ∷ g ∷ ws) all = refuses (λ e. omega (arith, e)) (one_two (codes "check") f g ws all.0 all.1.0)
-
-many_leaf : (name : Text) (ws : List Text) → AllByRecursion IsPlain ws → length ws ≤ usize_max → Leaf (many name) (0 < length ws) ws (found Canon ws)
-many_leaf name [] all few = refuses (λ e. omega (arith, e)) (many_none name)
-many_leaf name (f ∷ ws) all few = takes (omega arith) (many_some name f ws all.0 all.1 (omega (arith, few))) (many_rows name f ws all.0 all.1)
-
-filter_leaf : (ws : List Text) → AllByRecursion IsPlain ws → length ws ≤ usize_max → Leaf (shape_of_verb Filter) (1 < length ws) ws (found Filter ws)
-filter_leaf [] all few = refuses (λ e. omega (arith, e)) (filter_none (codes "filter"))
-filter_leaf (f ∷ []) all few = refuses (λ e. omega (arith, e)) (filter_one (codes "filter") f all.0)
-filter_leaf (f ∷ g ∷ ws) all few = takes (omega arith) (filter_some (codes "filter") f g ws all.0 all.1.0 all.1.1 (omega (arith, few))) (filter_rows (codes "filter") f g ws all.0 all.1.0 all.1.1)
-
-two_leaf : (name : Text) (ws : List Text) → AllByRecursion IsPlain ws → Leaf (two name) (length ws ≡ 2) ws (found Migrate ws)
-two_leaf name [] all = refuses (λ e. omega (arith, e)) (two_none name)
-two_leaf name (f ∷ []) all = refuses (λ e. omega (arith, e)) (two_one name f all.0)
-two_leaf name (f ∷ g ∷ []) all = takes refl (two_two name f g all.0 all.1.0) (two_rows name f g all.0 all.1.0)
-two_leaf name (f ∷ g ∷ h ∷ ws) all = refuses (λ e. omega (arith, e)) (two_three name f g h ws all.0 all.1.0 all.1.1.0)
-
-expand_leaf : (ws : List Text) → AllByRecursion IsPlain ws → Leaf (shape_of_verb Expand) (length ws ≡ 2) ws (found Expand ws)
-expand_leaf [] all = refuses (λ e. omega (arith, e)) (expand_none (codes "expand"))
-expand_leaf (f ∷ []) all = refuses (λ e. omega (arith, e)) (expand_one (codes "expand") f all.0)
-expand_leaf (f ∷ g ∷ []) all = takes refl (expand_two (codes "expand") f g all.0 all.1.0) (expand_rows (codes "expand") f g all.0 all.1.0)
-expand_leaf (f ∷ g ∷ h ∷ ws) all = refuses (λ e. omega (arith, e)) (expand_three (codes "expand") f g h ws all.0 all.1.0 all.1.1.0)
-
-three_leaf : (ws : List Text) → AllByRecursion IsPlain ws → Leaf (shape_of_verb Trial) (length ws ≡ 3) ws (found Trial ws)
-three_leaf [] all = refuses (λ e. omega (arith, e)) (three_none (codes "trial"))
-three_leaf (f ∷ []) all = refuses (λ e. omega (arith, e)) (three_one (codes "trial") f all.0)
-three_leaf (f ∷ g ∷ []) all = refuses (λ e. omega (arith, e)) (three_two (codes "trial") f g all.0 all.1.0)
-three_leaf (f ∷ g ∷ h ∷ []) all = takes refl (three_three (codes "trial") f g h all.0 all.1.0 all.1.1.0) (three_rows (codes "trial") f g h all.0 all.1.0 all.1.1.0)
-three_leaf (f ∷ g ∷ h ∷ k ∷ ws) all = refuses (λ e. omega (arith, e)) (three_four (codes "trial") f g h k ws all.0 all.1.0 all.1.1.0 all.1.1.1.0)
-
-pub leaf : (v : Verb) (ws : List Text) → AllByRecursion IsPlain ws → length ws ≤ usize_max → Leaf (shape_of_verb v) (TakesWords v (length ws)) ws (found v ws)
-leaf Check ws all few = one_leaf ws all
-leaf Canon ws all few = many_leaf (codes "canon") ws all few
-leaf Show ws all few = many_leaf (codes "show") ws all few
-leaf Texts ws all few = many_leaf (codes "text") ws all few
-leaf Build ws all few = many_leaf (codes "build") ws all few
-leaf Filter ws all few = filter_leaf ws all few
-leaf Migrate ws all few = two_leaf (codes "migrate") ws all
-leaf Trial ws all few = three_leaf ws all
-leaf Salvage ws all few = many_leaf (codes "salvage") ws all few
-leaf Expand ws all few = expand_leaf ws all
-leaf Convert ws all few = two_leaf (codes "convert") ws all
+pub leaf : (s : Shape) (name : Text) (ws : List Text) → AllByRecursion IsPlain ws → length ws ≤ usize_max → Leaf s name ws
+leaf OneFile name [] all few = refuses (λ e. omega (arith, e)) (file_none name)
+leaf OneFile name (f ∷ []) all few = takes refl (file_one name f all.0) (file_rows name f all.0)
+leaf OneFile name (f ∷ g ∷ ws) all few = refuses (λ e. omega (arith, e)) (file_two name f g ws all.0 all.1.0)
+leaf Catalogue name [] all few = refuses (λ e. omega (arith, e)) (catalogue_none name)
+leaf Catalogue name (f ∷ ws) all few = takes (omega arith) (catalogue_some name f ws all.0 all.1 (omega (arith, few))) (catalogue_rows name f ws all.0 all.1)
+leaf Expression name [] all few = refuses (λ e. omega (arith, e)) (expression_none name)
+leaf Expression name (f ∷ []) all few = refuses (λ e. omega (arith, e)) (expression_one name f all.0)
+leaf Expression name (f ∷ g ∷ ws) all few = takes (omega arith) (expression_some name f g ws all.0 all.1.0 all.1.1 (omega (arith, few))) (expression_rows name f g ws all.0 all.1.0 all.1.1)
+leaf Editions name [] all few = refuses (λ e. omega (arith, e)) (editions_none name)
+leaf Editions name (f ∷ []) all few = refuses (λ e. omega (arith, e)) (editions_one name f all.0)
+leaf Editions name (f ∷ g ∷ []) all few = takes refl (editions_two name f g all.0 all.1.0) (editions_rows name f g all.0 all.1.0)
+leaf Editions name (f ∷ g ∷ h ∷ ws) all few = refuses (λ e. omega (arith, e)) (editions_three name f g h ws all.0 all.1.0 all.1.1.0)
+leaf Expansion name [] all few = refuses (λ e. omega (arith, e)) (expansion_none name)
+leaf Expansion name (f ∷ []) all few = refuses (λ e. omega (arith, e)) (expansion_one name f all.0)
+leaf Expansion name (f ∷ g ∷ []) all few = takes refl (expansion_two name f g all.0 all.1.0) (expansion_rows name f g all.0 all.1.0)
+leaf Expansion name (f ∷ g ∷ h ∷ ws) all few = refuses (λ e. omega (arith, e)) (expansion_three name f g h ws all.0 all.1.0 all.1.1.0)
+leaf Numbers name [] all few = refuses (λ e. omega (arith, e)) (numbers_none name)
+leaf Numbers name (f ∷ []) all few = refuses (λ e. omega (arith, e)) (numbers_one name f all.0)
+leaf Numbers name (f ∷ g ∷ []) all few = refuses (λ e. omega (arith, e)) (numbers_two name f g all.0 all.1.0)
+leaf Numbers name (f ∷ g ∷ h ∷ []) all few = takes refl (numbers_three name f g h all.0 all.1.0 all.1.1.0) (numbers_rows name f g h all.0 all.1.0 all.1.1.0)
+leaf Numbers name (f ∷ g ∷ h ∷ k ∷ ws) all few = refuses (λ e. omega (arith, e)) (numbers_four name f g h k ws all.0 all.1.0 all.1.1.0 all.1.1.1.0)

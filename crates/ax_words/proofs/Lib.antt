@@ -8,3 +8,4 @@ pub mod Numbers
 pub mod Once
 pub mod Program
 pub mod Shapes
+pub mod Verbs

@@ -2,10 +2,11 @@
 use Rattle.std.specs.Prelude.{List, [], ◌∷◌, Some, true, codes, fold}
 use Rattle.clap.specs.Lexer.{usize_max}
 use Rattle.clap.specs.Walk.{Rule, Text}
-use Rattle.clap.specs.Simple.{App, Shape, new_rule, new_shape, with_subcommand}
-use Rattle.ax_words.specs.Verbs.{name_of, verbs}
-use Rattle.ax_words.specs.declared.verb.Verb.{Verb}
-use Rattle.ax_words.specs.declared.verb.Verb.TheVariants as VerbOf
+use Rattle.clap.specs.Simple.{App, Shape as ClapShape, new_rule, new_shape, with_subcommand}
+use Rattle.ax_words.specs.Verbs.{name_of, shape_of, verbs}
+use Rattle.ax_words.specs.declared.line.Verb.{Verb}
+use Rattle.ax_words.specs.declared.shape.Shape.{Shape}
+use Rattle.ax_words.specs.declared.shape.Shape.TheVariants.{OneFile, Catalogue, Expression, Editions, Expansion, Numbers}
 
 -- one word
 abbrev pub one_word : Text → Rule
@@ -15,22 +16,17 @@ one_word id = record (new_rule id) { required = true }
 abbrev pub some_words : Text → Rule
 some_words id = record (new_rule id) { required = true; range = Some (record { start_inclusive = 1; end_inclusive = usize_max }) }
 
--- the words after each verb
-abbrev pub rules_of : Verb → List Rule
-rules_of VerbOf.Check = one_word (codes "SPEC") ∷ []
-rules_of VerbOf.Canon = some_words (codes "SPEC") ∷ []
-rules_of VerbOf.Show = some_words (codes "SPEC") ∷ []
-rules_of VerbOf.Text = some_words (codes "SPEC") ∷ []
-rules_of VerbOf.Build = some_words (codes "SPEC") ∷ []
-rules_of VerbOf.Filter = one_word (codes "EXPR") ∷ some_words (codes "SPEC") ∷ []
-rules_of VerbOf.Migrate = one_word (codes "OLD") ∷ one_word (codes "NEW") ∷ []
-rules_of VerbOf.Trial = one_word (codes "SPEC") ∷ one_word (codes "SEED") ∷ one_word (codes "COUNT") ∷ []
-rules_of VerbOf.Salvage = some_words (codes "SPEC") ∷ []
-rules_of VerbOf.Expand = one_word (codes "SPEC") ∷ one_word (codes "EXPANSION") ∷ []
-rules_of VerbOf.Convert = one_word (codes "OLD") ∷ one_word (codes "NEW") ∷ []
+-- the words of each shape
+abbrev pub rules_of : Shape → List Rule
+rules_of OneFile = one_word (codes "SPEC") ∷ []
+rules_of Catalogue = some_words (codes "SPEC") ∷ []
+rules_of Expression = one_word (codes "EXPR") ∷ some_words (codes "SPEC") ∷ []
+rules_of Editions = one_word (codes "OLD") ∷ one_word (codes "NEW") ∷ []
+rules_of Expansion = one_word (codes "SPEC") ∷ one_word (codes "EXPANSION") ∷ []
+rules_of Numbers = one_word (codes "SPEC") ∷ one_word (codes "SEED") ∷ one_word (codes "COUNT") ∷ []
 
 -- a subcommand with these rules
-abbrev pub leaf_shape : Text → List Rule → Shape
+abbrev pub leaf_shape : Text → List Rule → ClapShape
 leaf_shape name rules = record (new_shape name) { rules = rules }
 
 abbrev pub leaf : Text → List Rule → App
@@ -40,8 +36,9 @@ leaf name rules = record { top = leaf_shape name rules; subs = [] }
 abbrev pub leaf_of_three : Text → Text → Text → Text → App
 leaf_of_three name first second third = leaf name (one_word first ∷ one_word second ∷ one_word third ∷ [])
 
-abbrev pub shape_of_verb : Verb → Shape
-shape_of_verb verb = leaf_shape (name_of verb) (rules_of verb)
+-- the subcommand of a verb
+abbrev pub leaf_of_verb : Verb → ClapShape
+leaf_of_verb verb = leaf_shape (name_of verb) (rules_of (shape_of verb))
 
 -- the settings of the whole command
 abbrev pub bare : App
@@ -57,7 +54,7 @@ bare = record {
 }
 
 abbrev pub with_verb : App → Verb → App
-with_verb app verb = with_subcommand app (shape_of_verb verb)
+with_verb app verb = with_subcommand app (leaf_of_verb verb)
 
 -- the whole command
 abbrev pub program : App

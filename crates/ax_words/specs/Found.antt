@@ -1,4 +1,4 @@
--- What clap finds of the words after a verb.
+-- What clap finds of the words after a verb, by their shape.
 use Rattle.std.specs.Prelude.{◌≡◌, ◌⊎◌, List, [], ◌∷◌, Option, Some, None, codes, take, drop}
 use Rattle.clap.specs.Values.{reading_of}
 use Rattle.clap.specs.Walk.{Row, Text, all_of, first_of, rows_of}
@@ -8,8 +8,8 @@ use Rattle.clap.specs.declared.parser.matches.ArgMatches.{ArgMatches}
 use Rattle.clap.specs.declared.parser.matches.ValueSource.TheVariants.{CommandLine}
 use Rattle.ax_words.specs.declared.error.WordsError.{WordsError}
 use Rattle.ax_words.specs.declared.error.WordsError.TheVariants.{OutOfMemory}
-use Rattle.ax_words.specs.declared.verb.Verb.{Verb}
-use Rattle.ax_words.specs.declared.verb.Verb.TheVariants as VerbOf
+use Rattle.ax_words.specs.declared.shape.Shape.{Shape}
+use Rattle.ax_words.specs.declared.shape.Shape.TheVariants.{OneFile, Catalogue, Expression, Editions, Expansion, Numbers}
 
 -- the row of words that were given
 abbrev pub given : Text → List Text → Row
@@ -19,13 +19,13 @@ given id values = record { id = id; values = values; count = None; source = Some
 abbrev pub given_two : Text → Text → List Text → List Row
 given_two first second words = given first (take 1 words) ∷ given second (drop 1 words) ∷ []
 
-abbrev pub found : Verb → List Text → List Row
-found VerbOf.Filter words = given_two (codes "EXPR") (codes "SPEC") words
-found VerbOf.Migrate words = given_two (codes "OLD") (codes "NEW") words
-found VerbOf.Expand words = given_two (codes "SPEC") (codes "EXPANSION") words
-found VerbOf.Convert words = given_two (codes "OLD") (codes "NEW") words
-found VerbOf.Trial words = given (codes "SPEC") (take 1 words) ∷ given_two (codes "SEED") (codes "COUNT") (drop 1 words)
-found _ words = given (codes "SPEC") words ∷ []
+abbrev pub found : Shape → List Text → List Row
+found OneFile words = given (codes "SPEC") words ∷ []
+found Catalogue words = given (codes "SPEC") words ∷ []
+found Expression words = given_two (codes "EXPR") (codes "SPEC") words
+found Editions words = given_two (codes "OLD") (codes "NEW") words
+found Expansion words = given_two (codes "SPEC") (codes "EXPANSION") words
+found Numbers words = given (codes "SPEC") (take 1 words) ∷ given_two (codes "SEED") (codes "COUNT") (drop 1 words)
 
 -- the first word that was found under that name
 abbrev pub word_under : Text → ArgMatches → Option Text

@@ -1,42 +1,27 @@
 -- The shapes of the words of a command line (this project's own rules).
-use Rattle.std.specs.Prelude.{◌≡◌, ℕ, ◌<◌, ◌≤◌, ◌^◌, ◌==◌, false, List, [], ◌∷◌, length, drop, codes, decimal, Result, Ok, Err}
+use Rattle.std.specs.Prelude.{◌≡◌, ℕ, ◌<◌, ◌==◌, false, List, [], ◌∷◌, length, drop, Result, Ok, Err}
 use Rattle.std.specs.List.{AllByRecursion}
+use Rattle.ax_words.specs.Arguments.{words_after, AreInBounds}
+use Rattle.ax_words.specs.Verbs.{name_of, Said, of_verb, alone, said}
 use Rattle.ax_words.specs.declared.error.WordsError.{WordsError}
 use Rattle.ax_words.specs.declared.error.WordsError.TheVariants as ErrorOf
 use Rattle.ax_words.specs.declared.line.Line.{Line}
-use Rattle.ax_words.specs.declared.line.Line.TheVariants as LineOf
+
+abbrev pub words_said : Said → List (List ℕ)
+words_said (of_verb verb arguments) = name_of verb ∷ words_after arguments
+words_said (alone word) = word ∷ []
+
+abbrev pub IsSaidInBounds : Said → Type 0
+IsSaidInBounds (of_verb verb arguments) = AreInBounds arguments
+IsSaidInBounds (alone word) = Unit {0}
 
 -- the words that ask for it
 abbrev pub words_of : Line → List (List ℕ)
-words_of (LineOf.Check file) = codes "check" ∷ file ∷ []
-words_of (LineOf.Canon files) = codes "canon" ∷ files
-words_of (LineOf.Show files) = codes "show" ∷ files
-words_of (LineOf.Text files) = codes "text" ∷ files
-words_of (LineOf.Build files) = codes "build" ∷ files
-words_of (LineOf.Filter expr files) = codes "filter" ∷ expr ∷ files
-words_of (LineOf.Migrate old new) = codes "migrate" ∷ old ∷ new ∷ []
-words_of (LineOf.Trial file seed count) = codes "trial" ∷ file ∷ decimal seed ∷ decimal count ∷ []
-words_of (LineOf.Salvage files) = codes "salvage" ∷ files
-words_of (LineOf.Expand spec expansion) = codes "expand" ∷ spec ∷ expansion ∷ []
-words_of (LineOf.Convert old new) = codes "convert" ∷ old ∷ new ∷ []
-words_of LineOf.Help = codes "--help" ∷ []
-words_of LineOf.Version = codes "--version" ∷ []
+words_of line = words_said (said line)
 
 -- its numbers and its expression are within their bounds, and where it takes files at all it has one
 abbrev pub IsInBounds : Line → Type 0
-IsInBounds (LineOf.Check file) = Unit {0}
-IsInBounds (LineOf.Canon files) = 0 < length files
-IsInBounds (LineOf.Show files) = 0 < length files
-IsInBounds (LineOf.Text files) = 0 < length files
-IsInBounds (LineOf.Build files) = 0 < length files
-IsInBounds (LineOf.Filter expr files) = (length expr ≤ 2 ^ 31) × (0 < length files)
-IsInBounds (LineOf.Migrate old new) = Unit {0}
-IsInBounds (LineOf.Trial file seed count) = (seed < 2 ^ 64) × (count ≤ 1000000)
-IsInBounds (LineOf.Salvage files) = 0 < length files
-IsInBounds (LineOf.Expand spec expansion) = Unit {0}
-IsInBounds (LineOf.Convert old new) = Unit {0}
-IsInBounds LineOf.Help = Unit {0}
-IsInBounds LineOf.Version = Unit {0}
+IsInBounds line = IsSaidInBounds (said line)
 
 -- a word that doesn't begin with `-`
 abbrev pub IsPlain : List ℕ → Type 0

@@ -2,9 +2,10 @@
 ghost use Rattle.std.specs.Prelude.{◌≡◌, IfOk, false, [], ◌∷◌};
 ghost use Rattle.clap.specs.Words.{app_of, rule_of, shape_of};
 ghost use Rattle.clap.specs.declared.builder.command.Command.TheViews.{out-Command as fields_of};
-ghost use Rattle.ax_words.specs.Commands.{one_word, some_words, leaf, leaf_of_three, shape_of_verb, bare, with_verb, program};
+ghost use Rattle.ax_words.specs.Commands.{one_word, some_words, leaf, leaf_of_three, leaf_shape, rules_of, bare, with_verb, program};
 
-use crate::verb::{VERBS, Verb};
+use crate::line::{VERBS, Verb};
+use crate::shape::Shape;
 use clap::{Arg, Command};
 use std::alloc::{AllocError, Global};
 
@@ -83,21 +84,18 @@ fn with_three_words<'a>(
     command.arg(word(alloc, third))
 }
 
-/// The subcommand of a verb.
-fn leaf<'a>(alloc: Global, verb: Verb) -> Result<Command<'a>, AllocError>
-    ensures shape { IfOk result (λ c. shape_of c ≡ shape_of_verb verb) }
+/// A subcommand with the words of this shape.
+fn with_shape<'a>(alloc: Global, name: &'a str, shape: Shape) -> Result<Command<'a>, AllocError>
+    ensures shape { IfOk result (λ c. shape_of c ≡ leaf_shape name.entry.now (rules_of shape)) }
     ensures local { IfOk result (λ c. (fields_of c).has_globals ≡ false) }
 {
-    let name: &'a str = verb.name();
-    match verb {
-        Verb::Check => with_word(alloc, name, "SPEC"),
-        Verb::Canon | Verb::Show | Verb::Text | Verb::Build | Verb::Salvage => {
-            with_words(alloc, name, "SPEC")
-        }
-        Verb::Filter => with_word_and_words(alloc, name, "EXPR", "SPEC"),
-        Verb::Migrate | Verb::Convert => with_two_words(alloc, name, "OLD", "NEW"),
-        Verb::Expand => with_two_words(alloc, name, "SPEC", "EXPANSION"),
-        Verb::Trial => with_three_words(alloc, name, "SPEC", "SEED", "COUNT"),
+    match shape {
+        Shape::OneFile => with_word(alloc, name, "SPEC"),
+        Shape::Catalogue => with_words(alloc, name, "SPEC"),
+        Shape::Expression => with_word_and_words(alloc, name, "EXPR", "SPEC"),
+        Shape::Editions => with_two_words(alloc, name, "OLD", "NEW"),
+        Shape::Expansion => with_two_words(alloc, name, "SPEC", "EXPANSION"),
+        Shape::Numbers => with_three_words(alloc, name, "SPEC", "SEED", "COUNT"),
     }
 }
 
@@ -117,7 +115,8 @@ fn bare_command<'a>(alloc: Global) -> Command<'a>
 fn with_verb<'a>(alloc: Global, command: Command<'a>, verb: Verb) -> Result<Command<'a>, AllocError>
     ensures { IfOk result (λ c. app_of c ≡ with_verb (app_of command.entry) verb) }
 {
-    let sub = leaf(alloc, verb)?;
+    let name: &'a str = verb.name();
+    let sub = with_shape(alloc, name, verb.shape())?;
     command.subcommand(sub)
 }
 

@@ -6,6 +6,7 @@ mod error;
 mod line;
 mod number;
 mod reading;
+mod shape;
 mod verb;
 
 pub use error::WordsError;

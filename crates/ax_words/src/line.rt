@@ -1,6 +1,8 @@
-//! What the words ask for.
+//! What the words ask for: a row for each command in each of its tables.
 ghost use Rattle.std.specs.Prelude.{◌≡◌, IfOk};
+ghost use Rattle.ax_words.specs.Verbs.{name_of, shape_of};
 
+use crate::shape::Shape;
 use ax_lists::Sequence;
 use std::alloc::{AllocError, Global};
 use std::marker::Model;
@@ -45,7 +47,74 @@ impl WordText {
 /// Words in their order, fewer than 2^32 of them.
 pub type WordTexts = Sequence<WordText>;
 
-/// What the words ask for: one variant for each shape.
+/// What a command does, by its first word.
+#[derive(Clone, Copy)]
+pub(crate) enum Verb {
+    Check,
+    Canon,
+    Show,
+    Text,
+    Build,
+    Filter,
+    Migrate,
+    Trial,
+    Salvage,
+    Expand,
+    Convert,
+}
+
+/// Every verb, once.
+pub(crate) const VERBS: [Verb; 11] = [
+    Verb::Check,
+    Verb::Canon,
+    Verb::Show,
+    Verb::Text,
+    Verb::Build,
+    Verb::Filter,
+    Verb::Migrate,
+    Verb::Trial,
+    Verb::Salvage,
+    Verb::Expand,
+    Verb::Convert,
+];
+
+impl Verb {
+    /// The word that names it, and the shape of the words after it.
+    fn usage(self) -> (&'static str, Shape)
+        ensures name { result.0.now ≡ name_of self }
+        ensures shape { result.1 ≡ shape_of self }
+    {
+        match self {
+            Verb::Check => ("check", Shape::OneFile),
+            Verb::Canon => ("canon", Shape::Catalogue),
+            Verb::Show => ("show", Shape::Catalogue),
+            Verb::Text => ("text", Shape::Catalogue),
+            Verb::Build => ("build", Shape::Catalogue),
+            Verb::Filter => ("filter", Shape::Expression),
+            Verb::Migrate => ("migrate", Shape::Editions),
+            Verb::Trial => ("trial", Shape::Numbers),
+            Verb::Salvage => ("salvage", Shape::Catalogue),
+            Verb::Expand => ("expand", Shape::Expansion),
+            Verb::Convert => ("convert", Shape::Editions),
+        }
+    }
+
+    /// The word that names it.
+    pub(crate) fn name(self) -> &'static str
+        ensures { result.now ≡ name_of self }
+    {
+        self.usage().0
+    }
+
+    /// The shape of the words after it.
+    pub(crate) fn shape(self) -> Shape
+        ensures { result ≡ shape_of self }
+    {
+        self.usage().1
+    }
+}
+
+/// What the words ask for: one variant for each command.
 pub enum Line {
     /// `check SPEC`
     Check {

@@ -4,14 +4,16 @@ ghost use Rattle.std.specs.List.{AllByRecursion};
 ghost use Rattle.std.specs.String.{string_bytes};
 ghost use Rattle.clap.specs.Words.{rows_of, found_of};
 ghost use Rattle.ax_words.specs.Found.{LacksSpecs, spec_words, word_under};
-ghost use Rattle.ax_words.specs.Lines.{AnswersRows, HasFewFiles};
+ghost use Rattle.ax_words.specs.Arguments.{one_file, catalogue, expression, editions, expansion, numbers};
+ghost use Rattle.ax_words.specs.Lines.{Gives, HasFewFiles, IsLineOf};
+ghost use Rattle.ax_words.specs.declared.shape.Shape.TheVariants as Shape;
 ghost use Rattle.ax_words.specs.Words.{IsPlain, JudgesWords};
 
 use crate::builder::command;
 use crate::error::WordsError;
-use crate::line::{Line, WordText, WordTexts};
+use crate::line::{Line, Verb, WordText, WordTexts};
 use crate::number::{count_of, seed_of};
-use crate::verb::{Verb, verb_named};
+use crate::verb::verb_named;
 use clap::ArgMatches;
 use clap::error::ErrorKind;
 use std::alloc::{AllocError, Global};
@@ -78,54 +80,22 @@ fn files_of(alloc: Global, matches: &ArgMatches<'_>) -> Result<WordTexts, WordsE
     }
 }
 
-/// The line of `check`.
-#[tactic(auto, using(crate::proofs::Lines::check_lines))]
-fn check_line(alloc: Global, matches: &ArgMatches<'_>) -> Result<Line, WordsError>
-    ensures { AnswersRows Verb.Check (rows_of (found_of matches.now)) result }
+/// The file of `SPEC`.
+#[tactic(auto, using(crate::proofs::Lines::file_answers))]
+fn file_of(alloc: Global, matches: &ArgMatches<'_>) -> Result<WordText, WordsError>
+    ensures { Gives Shape.OneFile one_file (rows_of (found_of matches.now)) result }
 {
     let file = word_of(matches, "SPEC")?;
-    let file = WordText::of(alloc, file)?;
-    Ok(Line::Check { file })
+    Ok(WordText::of(alloc, file)?)
 }
 
-/// The line of `canon`.
-#[tactic(auto, using(crate::proofs::Lines::canon_lines))]
-fn canon_line(alloc: Global, matches: &ArgMatches<'_>) -> Result<Line, WordsError>
+/// The files of one or more SPEC.
+#[tactic(auto, using(crate::proofs::Lines::catalogue_answers))]
+fn catalogue_of(alloc: Global, matches: &ArgMatches<'_>) -> Result<WordTexts, WordsError>
     requires { HasFewFiles (rows_of (found_of matches.now)) }
-    ensures { AnswersRows Verb.Canon (rows_of (found_of matches.now)) result }
+    ensures { Gives Shape.Catalogue catalogue (rows_of (found_of matches.now)) result }
 {
-    let files = files_of(alloc, matches)?;
-    Ok(Line::Canon { files })
-}
-
-/// The line of `show`.
-#[tactic(auto, using(crate::proofs::Lines::show_lines))]
-fn show_line(alloc: Global, matches: &ArgMatches<'_>) -> Result<Line, WordsError>
-    requires { HasFewFiles (rows_of (found_of matches.now)) }
-    ensures { AnswersRows Verb.Show (rows_of (found_of matches.now)) result }
-{
-    let files = files_of(alloc, matches)?;
-    Ok(Line::Show { files })
-}
-
-/// The line of `text`.
-#[tactic(auto, using(crate::proofs::Lines::text_lines))]
-fn text_line(alloc: Global, matches: &ArgMatches<'_>) -> Result<Line, WordsError>
-    requires { HasFewFiles (rows_of (found_of matches.now)) }
-    ensures { AnswersRows Verb.Text (rows_of (found_of matches.now)) result }
-{
-    let files = files_of(alloc, matches)?;
-    Ok(Line::Text { files })
-}
-
-/// The line of `build`.
-#[tactic(auto, using(crate::proofs::Lines::build_lines))]
-fn build_line(alloc: Global, matches: &ArgMatches<'_>) -> Result<Line, WordsError>
-    requires { HasFewFiles (rows_of (found_of matches.now)) }
-    ensures { AnswersRows Verb.Build (rows_of (found_of matches.now)) result }
-{
-    let files = files_of(alloc, matches)?;
-    Ok(Line::Build { files })
+    files_of(alloc, matches)
 }
 
 /// Whether the word is short enough for an expression.
@@ -135,11 +105,14 @@ fn is_expression(word: &str) -> bool
     word.len() <= LONGEST_EXPRESSION
 }
 
-/// The line of `filter`.
-#[tactic(auto, using(crate::proofs::Lines::filter_lines))]
-fn filter_line(alloc: Global, matches: &ArgMatches<'_>) -> Result<Line, WordsError>
+/// The expression and the files of EXPR and one or more SPEC.
+#[tactic(auto, using(crate::proofs::Lines::expression_answers))]
+fn expression_of(
+    alloc: Global,
+    matches: &ArgMatches<'_>,
+) -> Result<(WordText, WordTexts), WordsError>
     requires { HasFewFiles (rows_of (found_of matches.now)) }
-    ensures { AnswersRows Verb.Filter (rows_of (found_of matches.now)) result }
+    ensures { Gives Shape.Expression (λ parts. expression parts.0 parts.1) (rows_of (found_of matches.now)) result }
 {
     let expr = word_of(matches, "EXPR")?;
     if !is_expression(expr) {
@@ -147,25 +120,37 @@ fn filter_line(alloc: Global, matches: &ArgMatches<'_>) -> Result<Line, WordsErr
     }
     let expr = WordText::of(alloc, expr)?;
     let files = files_of(alloc, matches)?;
-    Ok(Line::Filter { expr, files })
+    Ok((expr, files))
 }
 
-/// The line of `migrate`.
-#[tactic(auto, using(crate::proofs::Lines::migrate_lines))]
-fn migrate_line(alloc: Global, matches: &ArgMatches<'_>) -> Result<Line, WordsError>
-    ensures { AnswersRows Verb.Migrate (rows_of (found_of matches.now)) result }
+/// The files of `OLD NEW`.
+#[tactic(auto, using(crate::proofs::Lines::editions_answers))]
+fn editions_of(alloc: Global, matches: &ArgMatches<'_>) -> Result<(WordText, WordText), WordsError>
+    ensures { Gives Shape.Editions (λ parts. editions parts.0 parts.1) (rows_of (found_of matches.now)) result }
 {
     let old = word_of(matches, "OLD")?;
     let new = word_of(matches, "NEW")?;
     let old = WordText::of(alloc, old)?;
     let new = WordText::of(alloc, new)?;
-    Ok(Line::Migrate { old, new })
+    Ok((old, new))
 }
 
-/// The line of `trial`.
-#[tactic(auto, using(crate::proofs::Lines::trial_lines))]
-fn trial_line(alloc: Global, matches: &ArgMatches<'_>) -> Result<Line, WordsError>
-    ensures { AnswersRows Verb.Trial (rows_of (found_of matches.now)) result }
+/// The files of `SPEC EXPANSION`.
+#[tactic(auto, using(crate::proofs::Lines::expansion_answers))]
+fn expansion_of(alloc: Global, matches: &ArgMatches<'_>) -> Result<(WordText, WordText), WordsError>
+    ensures { Gives Shape.Expansion (λ parts. expansion parts.0 parts.1) (rows_of (found_of matches.now)) result }
+{
+    let spec = word_of(matches, "SPEC")?;
+    let expansion = word_of(matches, "EXPANSION")?;
+    let spec = WordText::of(alloc, spec)?;
+    let expansion = WordText::of(alloc, expansion)?;
+    Ok((spec, expansion))
+}
+
+/// The file and the numbers of `SPEC SEED COUNT`.
+#[tactic(auto, using(crate::proofs::Lines::numbers_answers))]
+fn numbers_of(alloc: Global, matches: &ArgMatches<'_>) -> Result<(WordText, u64, u32), WordsError>
+    ensures { Gives Shape.Numbers (λ parts. numbers parts.0 parts.1 parts.2) (rows_of (found_of matches.now)) result }
 {
     let file = word_of(matches, "SPEC")?;
     let Some(seed) = seed_of(word_of(matches, "SEED")?) else {
@@ -175,60 +160,59 @@ fn trial_line(alloc: Global, matches: &ArgMatches<'_>) -> Result<Line, WordsErro
         return Err(WordsError::Usage);
     };
     let file = WordText::of(alloc, file)?;
-    Ok(Line::Trial { file, seed, count })
-}
-
-/// The line of `salvage`.
-#[tactic(auto, using(crate::proofs::Lines::salvage_lines))]
-fn salvage_line(alloc: Global, matches: &ArgMatches<'_>) -> Result<Line, WordsError>
-    requires { HasFewFiles (rows_of (found_of matches.now)) }
-    ensures { AnswersRows Verb.Salvage (rows_of (found_of matches.now)) result }
-{
-    let files = files_of(alloc, matches)?;
-    Ok(Line::Salvage { files })
-}
-
-/// The line of `expand`.
-#[tactic(auto, using(crate::proofs::Lines::expand_lines))]
-fn expand_line(alloc: Global, matches: &ArgMatches<'_>) -> Result<Line, WordsError>
-    ensures { AnswersRows Verb.Expand (rows_of (found_of matches.now)) result }
-{
-    let spec = word_of(matches, "SPEC")?;
-    let expansion = word_of(matches, "EXPANSION")?;
-    let spec = WordText::of(alloc, spec)?;
-    let expansion = WordText::of(alloc, expansion)?;
-    Ok(Line::Expand { spec, expansion })
-}
-
-/// The line of `convert`.
-#[tactic(auto, using(crate::proofs::Lines::convert_lines))]
-fn convert_line(alloc: Global, matches: &ArgMatches<'_>) -> Result<Line, WordsError>
-    ensures { AnswersRows Verb.Convert (rows_of (found_of matches.now)) result }
-{
-    let old = word_of(matches, "OLD")?;
-    let new = word_of(matches, "NEW")?;
-    let old = WordText::of(alloc, old)?;
-    let new = WordText::of(alloc, new)?;
-    Ok(Line::Convert { old, new })
+    Ok((file, seed, count))
 }
 
 /// The line of a verb and its matches.
 fn line_of(alloc: Global, verb: Verb, matches: &ArgMatches<'_>) -> Result<Line, WordsError>
     requires { HasFewFiles (rows_of (found_of matches.now)) }
-    ensures { AnswersRows verb (rows_of (found_of matches.now)) result }
+    ensures { IsLineOf verb (rows_of (found_of matches.now)) result }
 {
     match verb {
-        Verb::Check => check_line(alloc, matches),
-        Verb::Canon => canon_line(alloc, matches),
-        Verb::Show => show_line(alloc, matches),
-        Verb::Text => text_line(alloc, matches),
-        Verb::Build => build_line(alloc, matches),
-        Verb::Filter => filter_line(alloc, matches),
-        Verb::Migrate => migrate_line(alloc, matches),
-        Verb::Trial => trial_line(alloc, matches),
-        Verb::Salvage => salvage_line(alloc, matches),
-        Verb::Expand => expand_line(alloc, matches),
-        Verb::Convert => convert_line(alloc, matches),
+        Verb::Check => {
+            let file = file_of(alloc, matches)?;
+            Ok(Line::Check { file })
+        }
+        Verb::Canon => {
+            let files = catalogue_of(alloc, matches)?;
+            Ok(Line::Canon { files })
+        }
+        Verb::Show => {
+            let files = catalogue_of(alloc, matches)?;
+            Ok(Line::Show { files })
+        }
+        Verb::Text => {
+            let files = catalogue_of(alloc, matches)?;
+            Ok(Line::Text { files })
+        }
+        Verb::Build => {
+            let files = catalogue_of(alloc, matches)?;
+            Ok(Line::Build { files })
+        }
+        Verb::Filter => {
+            let (expr, files) = expression_of(alloc, matches)?;
+            Ok(Line::Filter { expr, files })
+        }
+        Verb::Migrate => {
+            let (old, new) = editions_of(alloc, matches)?;
+            Ok(Line::Migrate { old, new })
+        }
+        Verb::Trial => {
+            let (file, seed, count) = numbers_of(alloc, matches)?;
+            Ok(Line::Trial { file, seed, count })
+        }
+        Verb::Salvage => {
+            let files = catalogue_of(alloc, matches)?;
+            Ok(Line::Salvage { files })
+        }
+        Verb::Expand => {
+            let (spec, expansion) = expansion_of(alloc, matches)?;
+            Ok(Line::Expand { spec, expansion })
+        }
+        Verb::Convert => {
+            let (old, new) = editions_of(alloc, matches)?;
+            Ok(Line::Convert { old, new })
+        }
     }
 }
 

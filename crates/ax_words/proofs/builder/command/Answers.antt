@@ -2,7 +2,7 @@ use Rattle.std.proofs.Common.{◌∙◌, ap, sym, get_or}
 use Rattle.std.proofs.lemmas.List.Sums.{fold_more}
 use Rattle.ax_words.specs.Commands.{bare, with_verb}
 use Rattle.ax_words.specs.Verbs.{verbs}
-use Rattle.ax_words.specs.declared.verb.Verb.TheVariants.{Check}
+use Rattle.ax_words.specs.declared.line.Verb.TheVariants.{Check}
 use Rattle.ax_words.proofs.builder.command.Goals as goal
 
 pub loop-verb-preserved : goal.loop-verb-preserved

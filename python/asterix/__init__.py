@@ -116,7 +116,7 @@ def frame(
     units = {path: element.unit for path, element in elements.items() if element.content == "quantity"}
     table = frame_of(columns, frozenset(path for path, unit in units.items() if unit == "s"))
     table.attrs["units"] = {path: unit for path, unit in units.items() if path in table.columns}
-    table.attrs["titles"] = {path: titles["/".join(path.split("/")[:2])] for path in table.columns if "/" in path}
+    table.attrs["titles"] = {path: titles.get("/".join(path.split("/")[:2]), "") for path in table.columns if "/" in path}
     return table
 
 

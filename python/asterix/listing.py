@@ -121,7 +121,7 @@ class RecordReader:
             }
         self.block, self.category = int(words[1]), words[3]
         if words[6] == "opaque":
-            return {"block": self.block, "category": int(self.category), "opaque": words[7] if len(words) > 7 else ""}
+            return {"block": self.block, "category": int(self.category), "opaque": words[7].strip('"')}
         return None
 
     def element(self, path: str, value: Value) -> None:

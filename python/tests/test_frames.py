@@ -50,9 +50,8 @@ def test_units_and_titles(program, kinds, recording):
 def test_paths_choose_columns(program, kinds, recording):
     path = recording(FULL, BARE)
     table = asterix.frame(path, kinds, paths=["250/040", "250/250", "250/020/spare"], command=program)
-    assert list(table.columns) == ["block", "record", "category", "250/040/A", "250/040/B/DEEP/CODE", "250/250", "250/020/spare", "250/040/B/spare"] or set(
-        table.columns
-    ) == {"block", "record", "category", "250/040/A", "250/040/B/DEEP/CODE", "250/250", "250/020/spare", "250/040/B/spare"}
+    chosen = {"250/040/A", "250/040/B/DEEP/CODE", "250/040/B/spare", "250/250", "250/020/spare"}
+    assert set(table.columns) == {"block", "record", "category"} | chosen
     assert len(table) == 3
     assert table["250/020/spare"][0] == [1, 2]
 

@@ -7,6 +7,8 @@ from collections.abc import Callable, Iterable, Iterator, Mapping
 from fractions import Fraction
 from typing import Any
 
+from .errors import AsterixError
+
 Record = dict[str, Any]
 Value = Any
 
@@ -88,23 +90,43 @@ class RecordReader:
         self.record: Record | None = None
 
     def records(self, pieces: Iterable[list[str]]) -> Iterator[Record]:
-        """The records of whole blocks, and the opaque blocks, in order.
+        """The records and the opaque blocks, in order.
 
-        A record is given once the next line that isn't its own has come, so that it is whole.
+        A record is given once the next line that isn't its own has come, or the listing has ended, so that it is whole.
+
+        Raises:
+            what `pieces` raises, behind the records that are whole.
         """
-        for lines in pieces:
-            for line in lines:
-                path, is_element, text = line.partition(" = ")
-                if is_element:
-                    self.element(path, self.values[text])
-                elif line[3:4] == "/":
-                    self.structure(line)
-                else:
-                    if self.record is not None:
-                        yield self.record
-                    self.record = self.begin(line)
-        if self.record is not None:
-            yield self.record
+        try:
+            for lines in pieces:
+                yield from self.taken(lines)
+        except AsterixError as error:
+            # The program writes whole blocks, unless it is killed while it writes.
+            if error.status > 0:
+                yield from self.last()
+            raise
+        except OSError:
+            yield from self.last()
+            raise
+        yield from self.last()
+
+    def last(self) -> Iterator[Record]:
+        """The record that is open, if there is one."""
+        record, self.record = self.record, None
+        if record is not None:
+            yield record
+
+    def taken(self, lines: list[str]) -> Iterator[Record]:
+        """Takes lines, and gives the records that end before one of them."""
+        for line in lines:
+            path, is_element, text = line.partition(" = ")
+            if is_element:
+                self.element(path, self.values[text])
+            elif line[3:4] == "/":
+                self.structure(line)
+            else:
+                yield from self.last()
+                self.record = self.begin(line)
 
     def begin(self, line: str) -> Record | None:
         """What begins with a line `block ..` or `record M`; `None` where no record does."""

@@ -17,7 +17,7 @@ item 010 "Source" group { SAC element 8 raw SIC element 8 integer unsigned }
 item 140 "Time of day" element 24 quantity unsigned 1 128 "s"
 item 020 "Extended" extended { part { TYP element 3 table { 1 "plot" 2 "track = kept" } spare 4 } part { ERR element 2 integer signed spare 5 } }
 item 040 "Compound" compound { A element 8 quantity signed 1 4 "FL" - B group { spare 1 DEEP group { CODE element 12 octal } spare 3 } }
-item 250 "Counted" counted { group { MB element 8 raw REST element 8 octal } }
+item 250 "Counted" counted { group { MB element 7 raw REST element 9 octal } }
 item 030 "By FX" byfx element 7 raw
 item 240 "Callsign" element 48 icao
 item 245 "Text" element 32 ascii
@@ -41,7 +41,7 @@ FULL = block(
     + (128 * 3600 + 1).to_bytes(3, "big")
     + bytes([0b010_0001_1, 0b11_00010_0])
     + bytes([0b1010_0000, 0xFE, 0b0_1110000, 0b01010_011])
-    + bytes([2, 7, 0o17, 255, 0])
+    + bytes([2]) + (7 << 9 | 0o017).to_bytes(2, "big") + (127 << 9).to_bytes(2, "big")
     + bytes([0b0000101_1, 0b0000110_0])
     + int("".join(f"{code:06b}" for code in (1, 2, 3, 49, 50, 32, 32, 32)), 2).to_bytes(6, "big")
     + b'a\x01"b'

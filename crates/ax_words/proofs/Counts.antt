@@ -2,7 +2,7 @@
 use Rattle.std.proofs.Common.{◌≡◌, ◌≤◌, List, [], ◌∷◌, length, refl, arith}
 use Rattle.std.specs.List.{AllByRecursion}
 use Rattle.clap.specs.Lexer.{usize_max}
-use Rattle.clap.specs.Walk.{Row, Text}
+use Rattle.clap.specs.Walk.{Text}
 use Rattle.ax_words.specs.Arguments.{TakesCount}
 use Rattle.ax_words.specs.Commands.{leaf_shape, rules_of}
 use Rattle.ax_words.specs.Found.{found}

@@ -3,10 +3,10 @@ use Rattle.std.proofs.Common.{◌≡◌, ℕ, ◌<◌, ◌≤◌, ◌^◌, List,
 use Rattle.std.specs.Prelude.{decimal, Result}
 use Rattle.clap.specs.Walk.{Row, Text, first_of, all_of}
 use Rattle.ax_words.specs.Arguments.{Arguments, one_file, catalogue, expression, editions, expansion, numbers, shape_of_arguments, words_after}
-use Rattle.ax_words.specs.Found.{found, given, given_two}
+use Rattle.ax_words.specs.Found.{found, given}
 use Rattle.ax_words.specs.Lines.{AreTaken, AnswersRows, Says, IsOfVerb, IsLineOf}
 use Rattle.ax_words.specs.Verbs.{name_of, shape_of, Said, of_verb, alone, said}
-use Rattle.ax_words.specs.Words.{HasShape, JudgesWords, IsSaidInBounds, words_said}
+use Rattle.ax_words.specs.Words.{JudgesWords, IsSaidInBounds, words_said}
 use Rattle.ax_words.specs.declared.error.WordsError.{WordsError}
 use Rattle.ax_words.specs.declared.error.WordsError.TheVariants as ErrorOf
 use Rattle.ax_words.specs.declared.line.Line.{Line}

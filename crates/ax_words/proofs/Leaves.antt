@@ -1,4 +1,4 @@
--- What clap makes of the words after a verb, by their shape: it takes exactly as many as the shape does, and finds their rows.
+-- What clap makes of the words after a verb, by their shape.
 use Rattle.std.proofs.Common.{◌≡◌, ℕ, suc, ◌≤◌, true, false, List, [], ◌∷◌, ◌++◌, length, Some, refl, sym, ◌∙◌, ap, codes, append_assoc, append-nil, arith}
 use Rattle.std.specs.Prelude.{fold}
 use Rattle.std.specs.List.{AllByRecursion}
@@ -29,10 +29,10 @@ abbrev pub rows : ClapShape → List Text → List Row
 rows s words = rows_after (sub s).rules [] words
 
 -- the subcommand of a shape, under some name
-abbrev leaf_of : Shape → Text → ClapShape
+abbrev pub leaf_of : Shape → Text → ClapShape
 leaf_of s name = leaf_shape name (rules_of s)
 
-not_trailing : (s : Shape) (name : Text) → HasNoTrailing (sub (leaf_of s name)).rules
+pub not_trailing : (s : Shape) (name : Text) → HasNoTrailing (sub (leaf_of s name)).rules
 not_trailing OneFile name = (refl, tt)
 not_trailing Catalogue name = (refl, tt)
 not_trailing Expression name = (refl, (refl, tt))
@@ -74,11 +74,11 @@ module _ (name f : Text) (ws : List Text) where
   files_fault : placed_fault (sub (leaf_of Catalogue name)) (walk_from nothing_held) (f ∷ ws) ≡ []
   files_fault = fault_many (sub (leaf_of Catalogue name)) (files_held []) 1 (λ vs w. refl) (λ vs. refl) (f ∷ []) ws
 
-  files_taken : AllByRecursion IsPlain (f ∷ ws) → suc (length ws) ≤ usize_max → fault (leaf_of Catalogue name) (f ∷ ws) ≡ []
+  pub files_taken : AllByRecursion IsPlain (f ∷ ws) → suc (length ws) ≤ usize_max → fault (leaf_of Catalogue name) (f ∷ ws) ≡ []
   unfolding defaults_fault
   files_taken all few = plain_fault (sub (leaf_of Catalogue name)) (not_trailing Catalogue name) (f ∷ ws) all ∙ rw (files_fault, files_walk, range_none (length ws) few, values_none ws) refl
 
-  files_rows : AllByRecursion IsPlain (f ∷ ws) → rows (leaf_of Catalogue name) (f ∷ ws) ≡ found Catalogue (f ∷ ws)
+  pub files_rows : AllByRecursion IsPlain (f ∷ ws) → rows (leaf_of Catalogue name) (f ∷ ws) ≡ found Catalogue (f ∷ ws)
   files_rows all = plain_rows (sub (leaf_of Catalogue name)) (not_trailing Catalogue name) (f ∷ ws) all ∙ rw files_walk refl
 
 module _ (name expr f : Text) (ws : List Text) where
@@ -91,45 +91,9 @@ module _ (name expr f : Text) (ws : List Text) where
   expr_fault : placed_fault (sub (leaf_of Expression name)) (walk_from nothing_held) (expr ∷ f ∷ ws) ≡ []
   expr_fault = fault_many (sub (leaf_of Expression name)) after_expr 2 (λ vs w. refl) (λ vs. refl) (f ∷ []) ws
 
-  expr_taken : AllByRecursion IsPlain (expr ∷ f ∷ ws) → suc (length ws) ≤ usize_max → fault (leaf_of Expression name) (expr ∷ f ∷ ws) ≡ []
+  pub expr_taken : AllByRecursion IsPlain (expr ∷ f ∷ ws) → suc (length ws) ≤ usize_max → fault (leaf_of Expression name) (expr ∷ f ∷ ws) ≡ []
   unfolding defaults_fault
   expr_taken all few = plain_fault (sub (leaf_of Expression name)) (not_trailing Expression name) (expr ∷ f ∷ ws) all ∙ rw (expr_fault, expr_walk, range_none (length ws) few, values_none ws) refl
 
-  expr_rows : AllByRecursion IsPlain (expr ∷ f ∷ ws) → rows (leaf_of Expression name) (expr ∷ f ∷ ws) ≡ found Expression (expr ∷ f ∷ ws)
+  pub expr_rows : AllByRecursion IsPlain (expr ∷ f ∷ ws) → rows (leaf_of Expression name) (expr ∷ f ∷ ws) ≡ found Expression (expr ∷ f ∷ ws)
   expr_rows all = plain_rows (sub (leaf_of Expression name)) (not_trailing Expression name) (expr ∷ f ∷ ws) all ∙ rw expr_walk refl
-
--- ---- as many words as the shape takes
-
--- the words are taken, and these rows found, or they are refused
-pub data Leaf (s : Shape) (name : Text) (ws : List Text) : Type 0 where
-  takes : TakesCount s (length ws) → fault (leaf_of s name) ws ≡ [] → rows (leaf_of s name) ws ≡ found s ws → Leaf s name ws
-  refuses : (TakesCount s (length ws) → ⊥) → (fault (leaf_of s name) ws ≡ [] → ⊥) → Leaf s name ws
-
-module _ (s : Shape) (name : Text) (ws : List Text) (all : AllByRecursion IsPlain ws) where
-  -- the faults at last, and the rows, where each word goes to the next positional
-  abbrev last_faults : Kinds
-  last_faults = ended (sub (leaf_of s name)) (not_trailing s name) (placed_fault (sub (leaf_of s name)) (walk_from nothing_held) ws) (fold (placed (sub (leaf_of s name)).rules) (walk_from nothing_held) ws)
-
-  abbrev last_rows : List Row
-  last_rows = finished (sub (leaf_of s name)).rules (fold (placed (sub (leaf_of s name)).rules) (walk_from nothing_held) ws).held
-
-  taken : TakesCount s (length ws) → last_faults ≡ [] → last_rows ≡ found s ws → Leaf s name ws
-  taken t e r = takes t (plain_fault (sub (leaf_of s name)) (not_trailing s name) ws all ∙ e) (plain_rows (sub (leaf_of s name)) (not_trailing s name) ws all ∙ r)
-
-  refused : (TakesCount s (length ws) → ⊥) → (last_faults ≡ [] → ⊥) → Leaf s name ws
-  refused n f = refuses n (λ e. f (sym (plain_fault (sub (leaf_of s name)) (not_trailing s name) ws all) ∙ e))
-
-pub leaf : (s : Shape) (name : Text) (ws : List Text) → AllByRecursion IsPlain ws → length ws ≤ usize_max → Leaf s name ws
-unfolding defaults_fault
-leaf OneFile name (f ∷ []) all few = taken OneFile name (f ∷ []) all refl refl refl
-leaf OneFile name ws all few = refused OneFile name ws all (λ t. omega (arith, t)) (λ e. cc)
-leaf Catalogue name [] all few = refused Catalogue name [] all (λ t. omega (arith, t)) (λ e. cc)
-leaf Catalogue name (f ∷ ws) all few = takes (omega arith) (files_taken name f ws all (omega (arith, few))) (files_rows name f ws all)
-leaf Expression name (expr ∷ f ∷ ws) all few = takes (omega arith) (expr_taken name expr f ws all (omega (arith, few))) (expr_rows name expr f ws all)
-leaf Expression name ws all few = refused Expression name ws all (λ t. omega (arith, t)) (λ e. cc)
-leaf Editions name (f ∷ g ∷ []) all few = taken Editions name (f ∷ g ∷ []) all refl refl refl
-leaf Editions name ws all few = refused Editions name ws all (λ t. omega (arith, t)) (λ e. cc)
-leaf Expansion name (f ∷ g ∷ []) all few = taken Expansion name (f ∷ g ∷ []) all refl refl refl
-leaf Expansion name ws all few = refused Expansion name ws all (λ t. omega (arith, t)) (λ e. cc)
-leaf Numbers name (f ∷ g ∷ h ∷ []) all few = taken Numbers name (f ∷ g ∷ h ∷ []) all refl refl refl
-leaf Numbers name ws all few = refused Numbers name ws all (λ t. omega (arith, t)) (λ e. cc)

@@ -1,4 +1,5 @@
 pub mod Answers
+pub mod Counts
 pub mod Plain
 pub mod Leaves
 pub mod Getters

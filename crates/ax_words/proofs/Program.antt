@@ -16,7 +16,8 @@ use Rattle.ax_words.specs.Found.{found}
 use Rattle.ax_words.specs.Verbs.{name_of, shape_of, verb_named, verbs, TakesWords}
 use Rattle.ax_words.specs.Words.{IsPlain, HasNoShape}
 use Rattle.ax_words.specs.declared.line.Verb.{Verb}
-use Rattle.ax_words.proofs.Leaves.{Leaf, takes, refuses, leaf, fault, rows, sub}
+use Rattle.ax_words.proofs.Counts.{Leaf, takes, refuses, leaf}
+use Rattle.ax_words.proofs.Leaves.{fault, rows, sub}
 use Rattle.ax_words.proofs.Shapes.{other_count, unnamed, no_words}
 use Rattle.ax_words.proofs.Verbs.{verb_row}
 

@@ -5,18 +5,17 @@ use Rattle.std.specs.List.{AllByRecursion}
 use Rattle.std.proofs.lemmas.Bool.{le-ltb}
 use Rattle.std.proofs.Math.Dec.{eqb-suc-zero}
 use Rattle.clap.specs.Lexer.{usize_max}
-use Rattle.clap.specs.Walk.{Held, Rule, Row, Text, positional, value, walk_from, rows_after, nothing_held, finished}
+use Rattle.clap.specs.Walk.{Held, Rule, Row, Text, positional, value, walk_from, rows_after, nothing_held}
 use Rattle.clap.specs.Simple.{Shape as ClapShape, built_leaf}
 use Rattle.clap.specs.Faults.{defaults_fault, level_fault, step_fault}
 use Rattle.clap.specs.Kinds.{Kinds, or_else, range_kinds, values_kinds}
 use Rattle.clap.specs.declared.builder.value_parser.ValueParser.TheVariants as vp
-use Rattle.ax_words.specs.Arguments.{TakesCount}
 use Rattle.ax_words.specs.Commands.{leaf_shape, rules_of}
 use Rattle.ax_words.specs.Found.{found, given}
 use Rattle.ax_words.specs.Words.{IsPlain}
 use Rattle.ax_words.specs.declared.shape.Shape.{Shape}
 use Rattle.ax_words.specs.declared.shape.Shape.TheVariants.{OneFile, Catalogue, Expression, Editions, Expansion, Numbers}
-use Rattle.ax_words.proofs.Plain.{at, ended, placed, placed_fault, plain_fault, plain_rows, HasNoTrailing}
+use Rattle.ax_words.proofs.Plain.{at, placed, placed_fault, plain_fault, plain_rows, HasNoTrailing}
 
 -- a subcommand as it is built, with the settings of the whole command
 abbrev pub sub : ClapShape → ClapShape

@@ -1,7 +1,7 @@
 pub mod Answers
+pub mod Counts
 pub mod Plain
 pub mod Leaves
-pub mod Counts
 pub mod Getters
 pub mod Lines
 pub mod Numbers

@@ -3,10 +3,10 @@ use Rattle.std.proofs.Common.{◌≡◌, ℕ, ◌<◌, ◌≤◌, ◌^◌, List,
 use Rattle.std.specs.Prelude.{decimal, Result}
 use Rattle.clap.specs.Walk.{Row, Text, first_of, all_of}
 use Rattle.ax_words.specs.Arguments.{Arguments, one_file, catalogue, expression, editions, expansion, numbers, shape_of_arguments, words_after}
-use Rattle.ax_words.specs.Found.{found, given, given_two}
+use Rattle.ax_words.specs.Found.{found, given}
 use Rattle.ax_words.specs.Lines.{AreTaken, AnswersRows, Says, IsOfVerb, IsLineOf}
 use Rattle.ax_words.specs.Verbs.{name_of, shape_of, Said, of_verb, alone, said}
-use Rattle.ax_words.specs.Words.{HasShape, JudgesWords, IsSaidInBounds, words_said}
+use Rattle.ax_words.specs.Words.{JudgesWords, IsSaidInBounds, words_said}
 use Rattle.ax_words.specs.declared.error.WordsError.{WordsError}
 use Rattle.ax_words.specs.declared.error.WordsError.TheVariants as ErrorOf
 use Rattle.ax_words.specs.declared.line.Line.{Line}
@@ -41,11 +41,10 @@ judged v rows ws (Err ErrorOf.OutOfMemory) h t e = tt
 -- ---- one file
 
 pub file_there : (rows : List Row) (word : Text) → first_of (codes "SPEC") rows ≡ Some word → AnswersRows OneFile rows (Ok (one_file word))
-file_there rows word e [] t h = absurd (omega (arith, t.counted))
 file_there rows word e (f ∷ []) t h =
     let same : some f ≡ some word = sym (ap (first_of (codes "SPEC")) h) ∙ e in
     let equal : f ≡ word = cc in record { words_are = ap (λ w. w ∷ []) equal; in_bounds = tt }
-file_there rows word e (f ∷ g ∷ ws) t h = absurd (omega (arith, t.counted))
+file_there rows word e ws t h = absurd (omega (arith, t.counted))
 
 pub file_lacks : (rows : List Row) (e : WordsError) → first_of (codes "SPEC") rows ≡ None → AnswersRows OneFile rows (Err e)
 file_lacks rows error e [] t h = absurd (omega (arith, t.counted))
@@ -115,16 +114,12 @@ record Two (a b : Text) (rows : List Row) (ws : List Text) : Type 0 where
   other_found : first_of b rows ≡ Some other
 
 two_editions : (rows : List Row) (ws : List Text) → AreTaken Editions ws → rows ≡ found Editions ws → Two (codes "OLD") (codes "NEW") rows ws
-two_editions rows [] t h = absurd (omega (arith, t.counted))
-two_editions rows (f ∷ []) t h = absurd (omega (arith, t.counted))
 two_editions rows (f ∷ g ∷ []) t h = record { one = f; other = g; words_are = refl; one_found = ap (first_of (codes "OLD")) h; other_found = ap (first_of (codes "NEW")) h }
-two_editions rows (f ∷ g ∷ k ∷ ws) t h = absurd (omega (arith, t.counted))
+two_editions rows ws t h = absurd (omega (arith, t.counted))
 
 two_of_expansion : (rows : List Row) (ws : List Text) → AreTaken Expansion ws → rows ≡ found Expansion ws → Two (codes "SPEC") (codes "EXPANSION") rows ws
-two_of_expansion rows [] t h = absurd (omega (arith, t.counted))
-two_of_expansion rows (f ∷ []) t h = absurd (omega (arith, t.counted))
 two_of_expansion rows (f ∷ g ∷ []) t h = record { one = f; other = g; words_are = refl; one_found = ap (first_of (codes "SPEC")) h; other_found = ap (first_of (codes "EXPANSION")) h }
-two_of_expansion rows (f ∷ g ∷ k ∷ ws) t h = absurd (omega (arith, t.counted))
+two_of_expansion rows ws t h = absurd (omega (arith, t.counted))
 
 equal_of : {X : Type 0} (o : Option X) (x y : X) → o ≡ Some x → o ≡ Some y → x ≡ y
 equal_of o x y e f = cc
@@ -172,11 +167,8 @@ record Three (rows : List Row) (ws : List Text) : Type 0 where
   count_found : first_of (codes "COUNT") rows ≡ Some count
 
 three : (rows : List Row) (ws : List Text) → AreTaken Numbers ws → rows ≡ found Numbers ws → Three rows ws
-three rows [] t h = absurd (omega (arith, t.counted))
-three rows (f ∷ []) t h = absurd (omega (arith, t.counted))
-three rows (f ∷ g ∷ []) t h = absurd (omega (arith, t.counted))
 three rows (f ∷ g ∷ k ∷ []) t h = record { file = f; seed = g; count = k; words_are = refl; file_found = ap (first_of (codes "SPEC")) h; seed_found = ap (first_of (codes "SEED")) h; count_found = ap (first_of (codes "COUNT")) h }
-three rows (f ∷ g ∷ k ∷ l ∷ ws) t h = absurd (omega (arith, t.counted))
+three rows ws t h = absurd (omega (arith, t.counted))
 
 pub numbers_there : (rows : List Row) (file seed count : Text) (n m : ℕ) → first_of (codes "SPEC") rows ≡ Some file → first_of (codes "SEED") rows ≡ Some seed → first_of (codes "COUNT") rows ≡ Some count
     → n < 2 ^ 64 → seed ≡ decimal n → (m ≤ 1000000) × (count ≡ decimal m) → AnswersRows Numbers rows (Ok (numbers file n m))

@@ -1,11 +1,10 @@
 -- Words ask for one line at most.
-use Rattle.std.proofs.Common.{◌≡◌, List, [], ◌∷◌, refl, sym, ◌∙◌, ap, ap₂, Option, Some, None, arith}
+use Rattle.std.proofs.Common.{◌≡◌, sym, ◌∙◌, ap, ap₂, arith}
 use Rattle.std.proofs.lemmas.Fmt.{decimal_injective}
 use Rattle.ax_words.specs.Arguments.{Arguments, one_file, catalogue, expression, editions, expansion, numbers, AreInBounds, shape_of_arguments, words_after}
 use Rattle.ax_words.specs.Verbs.{shape_of, verb_named, Said, of_verb, alone, said}
 use Rattle.ax_words.specs.Words.{IsSaidInBounds, HasShape, words_of, words_said}
 use Rattle.ax_words.specs.declared.line.Line.{Line}
-use Rattle.ax_words.specs.declared.line.Verb.{Verb}
 use Rattle.ax_words.proofs.Shapes.{Words, first, tail, said_named, verb_said}
 use Rattle.ax_words.proofs.Verbs.{said_shape, same_line, IsShaped}
 

@@ -1,5 +1,5 @@
 -- Which words ask for a line: by their first word, and by how many stand after it.
-use Rattle.std.proofs.Common.{◌≡◌, ℕ, ◌≤◌, Bool, true, false, List, [], ◌∷◌, length, drop, find, Option, Some, None, refl, sym, ◌∙◌, ap, subst, codes, inl, inr, arith}
+use Rattle.std.proofs.Common.{◌≡◌, ℕ, ◌≤◌, true, false, List, [], ◌∷◌, length, drop, find, Option, Some, None, refl, sym, ◌∙◌, ap, subst, codes, inl, inr, arith}
 use Rattle.std.specs.Prelude.{bytes_eq}
 use Rattle.std.specs.List.{AllByRecursion}
 use Rattle.ax_words.specs.Arguments.{Arguments, one_file, catalogue, expression, editions, expansion, numbers, AreInBounds, TakesCount, shape_of_arguments, words_after}

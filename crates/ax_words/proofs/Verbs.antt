@@ -1,6 +1,6 @@
 -- What each command's own names and literals compute to: a row for each command in each of the tables.
-use Rattle.std.proofs.Common.{◌≡◌, ◌⊎◌, List, Some, refl, ap, ap₂, codes, inl, inr}
-use Rattle.ax_words.specs.Arguments.{Arguments, one_file, catalogue, expression, editions, expansion, numbers, shape_of_arguments}
+use Rattle.std.proofs.Common.{◌≡◌, ◌⊎◌, Some, refl, codes, inl, inr}
+use Rattle.ax_words.specs.Arguments.{shape_of_arguments}
 use Rattle.ax_words.specs.Verbs.{name_of, shape_of, verb_named, Said, of_verb, alone, said}
 use Rattle.ax_words.specs.Words.{IsPlain}
 use Rattle.ax_words.specs.declared.line.Line.{Line}

@@ -1,5 +1,5 @@
 -- The first words of commands, and what each line says (this project's own rules): a row for each command in each of the tables.
-use Rattle.std.specs.Prelude.{◌≡◌, ℕ, List, [], ◌∷◌, codes, find, Option}
+use Rattle.std.specs.Prelude.{ℕ, List, [], ◌∷◌, codes, find, Option}
 use Rattle.std.specs.Str.{bytes_eq}
 use Rattle.ax_words.specs.Arguments.{Arguments, one_file, catalogue, expression, editions, expansion, numbers, TakesCount}
 use Rattle.ax_words.specs.declared.line.Line.{Line}

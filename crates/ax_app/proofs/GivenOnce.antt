@@ -5,9 +5,10 @@ use Rattle.ax_load.proofs.EndsOnce.{loading_ends_once, stops_once, stops_told}
 use Rattle.ax_load.proofs.ExpansionsOnce.{expansion_files_are_one}
 use Rattle.ax_load.proofs.FilesOnce.{given_once, given_ends_for_memory, tree_given_once, given_tree_stops_for_memory}
 use Rattle.ax_load.specs.Languages.{expansion_files}
-use Rattle.ax_load.specs.Loading.{StopsAtFile, GivesIn, from_load}
+use Rattle.ax_load.specs.Loading.{FilesGive, StopsAtFile, GivesIn, from_load, taken_by}
 use Rattle.ax_load.specs.declared.fault.LoadStop.{LoadStop}
 use Rattle.ax_load.specs.declared.fault.LoadStop.TheVariants.{OutOfMemory}
+use Rattle.ax_format.specs.Specification.{SpecTree}
 use Rattle.ax_endpoints.specs.Changes.{LibraryCounts}
 use Rattle.ax_endpoints.specs.Files.{File}
 use Rattle.ax_endpoints.specs.Told.{Rose}
@@ -38,9 +39,15 @@ module _ (what : Line) (files : List File) where
       let same : other ≡ name = cc in
       given_tree_stops_for_memory expansion_files expansion_files_are_one files name c i x stop (subst (λ n. GivesIn expansion_files (Some files) n x) same h) quiet k
 
+  -- what was taken before its load doesn't matter
+  by_its_load : (c : LibraryCounts) (specs : List SpecTree) (give : FilesGive (takes_distinct what) (Some files) (files_of what) specs) (name : List ℕ) (stop : LoadStop)
+      → StopsAtFile expansion_files (Some files) (from_load c (taken_by (Some files) (files_of what) specs give.each c.taken)) name (length (files_of what)) stop → StopsAtFile expansion_files (Some files) c name (length (files_of what)) stop
+  by_its_load c specs give name stop h = stops_told files c name (taken_by (Some files) (files_of what) specs give.each c.taken) c.taken expansion_files (length (files_of what)) stop h
+
   pub line_ends_for_memory : (c : LibraryCounts) (given : Given) (stop : LoadStop) → (Rose c.faults c.faults' → ⊥) → LineGives what (Some files) given → LineEnds what (Some files) c stop → stop ≡ OutOfMemory
   line_ends_for_memory c given stop quiet h (in_specs ends) = given_ends_for_memory (takes_distinct what) files c (files_of what) given.specs stop quiet h.specs ends
-  line_ends_for_memory c given stop quiet h (in_expansion name is specs gives ends) = given_file (from_load c _) (expansion_of what) given.expansion name (length (files_of what)) stop quiet is h.expansion ends
+  line_ends_for_memory c given stop quiet h (in_expansion name is specs gives ends) =
+      given_file c (expansion_of what) given.expansion name (length (files_of what)) stop quiet is h.expansion (by_its_load c specs gives name stop ends)
 
   same_name : (name other : List ℕ) → expansion_of what ≡ Some name → expansion_of what ≡ Some other → other ≡ name
   same_name name other is to = let e : Some other ≡ Some name = sym to ∙ is in cc
@@ -50,5 +57,5 @@ module _ (what : Line) (files : List File) where
   line_ends_once c stop next quiet some others (in_specs h) (in_expansion name is specs gives k) = absurd (some (given_ends_for_memory (takes_distinct what) files c (files_of what) specs stop quiet gives h))
   line_ends_once c stop next quiet some others (in_expansion name is specs gives h) (in_specs k) = absurd (others (given_ends_for_memory (takes_distinct what) files c (files_of what) specs next quiet gives k))
   line_ends_once c stop next quiet some others (in_expansion name is specs gives h) (in_expansion other to specs' gives' k) =
-      stops_once expansion_files expansion_files_are_one files (from_load c _) name (length (files_of what)) stop next quiet some others h
-      (subst (λ n. StopsAtFile expansion_files (Some files) (from_load c _) n (length (files_of what)) next) (same_name name other is to) (stops_told files c other _ _ expansion_files (length (files_of what)) next k))
+      stops_once expansion_files expansion_files_are_one files c name (length (files_of what)) stop next quiet some others (by_its_load c specs gives name stop h)
+      (subst (λ n. StopsAtFile expansion_files (Some files) c n (length (files_of what)) next) (same_name name other is to) (by_its_load c specs' gives' other next k))

@@ -128,7 +128,8 @@ pub at_files_of : (what : Line) (files : List File) (c : LibraryCounts) (stop : 
 at_files_of what files c stop (in_specs h) =
     itself_on c stop _ _ (λ e. in_specs (record { earlier = h.earlier; name = h.name; more = h.more; split = h.split; before = h.before; give = h.give; ends = e }))
     (at_file (takes_distinct what) files c _ _ h.before h.name (length h.earlier) stop h.ends)
-at_files_of what files c stop (in_expansion name is specs gives h) = itself_on c stop _ _ (λ e. in_expansion name is specs gives e) (by_itself expansion_files files c _ _ name (length (files_of what)) stop h)
+at_files_of what files c stop (in_expansion name is specs gives h) = itself_on c stop _ _ (λ e. in_expansion name is specs gives e)
+    (by_itself expansion_files files c (from_load none_counted (taken_by (Some files) (files_of what) specs gives.each none_counted.taken)) (taken_by (Some files) (files_of what) specs gives.each c.taken) name (length (files_of what)) stop h)
 
 pub files_headline : (words : List (List ℕ)) (files : List File) (c : LibraryCounts) (input : List ℕ) (i : SourceChange) (o r : SinkChange) (outcome : Outcome) (stop : LoadStop) (h : StopsAtFiles words (Some files) c stop) → outcome ≡ outcome_of_stop stop → IsIdle i o r
     → IsHindrance c stop ⊎ ByItself stop (LineEnds h.what (Some files) none_counted stop) → Headline words files c input i o r outcome

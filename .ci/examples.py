@@ -14,7 +14,8 @@ not `head`). The one exception is a command that bash itself asks: after `if`, `
 status of the block's last line counts all the same.
 
 A block with another word after its ``` (`text`, `rust`) is only read. The blocks of a page run in order, in one shell and one folder.
-In that folder are the files and folders that are at the top of a clone, and `asterix` and the tools are on the PATH.
+In that folder are the files and folders that are at the top of a clone, and `asterix` and the tools are on the PATH. `python3` is the
+system's own, which has Debian's pandas, and finds the package of python/.
 """
 
 import argparse
@@ -29,7 +30,9 @@ from typing import NamedTuple
 
 TOP = pathlib.Path(__file__).resolve().parent.parent
 # What an example finds beside it.
-BESIDE = ("asterix", "categories", "docs", "samples", "tools")
+BESIDE = ("asterix", "categories", "docs", "python", "samples", "tools")
+# The Python that has what Debian's packages bring.
+PYTHON = "/usr/bin/python3"
 # Seconds for the examples of a page.
 RUNNING = 120
 # What the shell prints after each example.
@@ -113,7 +116,14 @@ def run_in(examples: list[Example], room: pathlib.Path, notes: pathlib.Path) -> 
     done = subprocess.run(
         ["bash", "-c", script],
         cwd=room,
-        env={**os.environ, "PATH": f"{room}:{room}/tools:{os.environ['PATH']}", "LC_ALL": "C", "asterix_notes": str(notes)},
+        env={
+            **os.environ,
+            "PATH": f"{room}:{room}/tools:{room}/.bin:{os.environ['PATH']}",
+            "PYTHONPATH": str(TOP / "python"),
+            "PYTHONDONTWRITEBYTECODE": "1",
+            "LC_ALL": "C",
+            "asterix_notes": str(notes),
+        },
         stdin=subprocess.DEVNULL,
         stdout=subprocess.PIPE,
         stderr=subprocess.STDOUT,
@@ -150,6 +160,8 @@ def run(page: str, text: str) -> list[str]:
         notes.mkdir()
         for name in BESIDE:
             (room / name).symlink_to(TOP / name)
+        (room / ".bin").mkdir()
+        (room / ".bin/python3").symlink_to(PYTHON)
         try:
             outputs = run_in(examples, room, notes)
         except subprocess.TimeoutExpired:

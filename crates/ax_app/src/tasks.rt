@@ -23,7 +23,6 @@ use ax_build_work::build_lines;
 use ax_check::{Accepted, Catalogue};
 use ax_command::{JobStop, Outcome, Refusal, line_of};
 use ax_endpoints::{LONGEST_INPUT, Sink, Source, write_text};
-use ax_expand::AcceptedExpansion;
 use ax_filter::{FilterStop, read_expression};
 use ax_format::Spec;
 use ax_grammar::print_spec;
@@ -234,37 +233,6 @@ fn salvage_blocks<S: Source, K: Sink, R: Sink>(
     Ok(outcome_of_salvage(salvage(&mut work, source, out, report)))
 }
 
-/// Does what a command without files says.
-fn over_nothing<S: Source, K: Sink, R: Sink>(line: &Line, io: Channels<'_, S, K, R>) -> Outcome
-    requires { IsLoadedFor line.now LoadedOf.Nothing }
-    ensures { RunsLine line.now (given_of LoadedOf.Nothing) (changes S.Source K.Sink R.Sink io.entry io.exit) (Ok result) }
-{
-    match line {
-        Line::Help => write_out(HELP, 0, io),
-        Line::Version => write_out(VERSION, 0, io),
-        _ => unreachable!(),
-    }
-}
-
-/// Does what a command over one specification says.
-fn over_one<S: Source, K: Sink, R: Sink>(
-    alloc: Global,
-    line: &Line,
-    spec: &Accepted,
-    io: Channels<'_, S, K, R>,
-) -> Result<Outcome, JobStop>
-    requires bounds { IsInBounds line.now }
-    requires in_range { AreNumbersInRange (spec_tree spec.now) }
-    requires loaded { IsLoadedFor line.now (LoadedOf.One spec.now) }
-    ensures { RunsLine line.now (given_of (LoadedOf.One spec.now)) (changes S.Source K.Sink R.Sink io.entry io.exit) result }
-{
-    match line {
-        Line::Check { .. } => check(alloc, spec, io),
-        Line::Trial { seed, count, .. } => trial(alloc, spec, *seed, *count, io),
-        _ => unreachable!(),
-    }
-}
-
 /// Does what a command over a catalogue says.
 fn over_catalogue<S: Source, K: Sink, R: Sink>(
     alloc: Global,
@@ -287,41 +255,6 @@ fn over_catalogue<S: Source, K: Sink, R: Sink>(
     }
 }
 
-/// Does what a command over two editions says.
-fn over_editions<S: Source, K: Sink, R: Sink>(
-    alloc: Global,
-    line: &Line,
-    old: &Accepted,
-    new: &Accepted,
-    io: Channels<'_, S, K, R>,
-) -> Result<Outcome, JobStop>
-    requires { IsLoadedFor line.now (LoadedOf.Editions old.now new.now) }
-    ensures { RunsLine line.now (given_of (LoadedOf.Editions old.now new.now)) (changes S.Source K.Sink R.Sink io.entry io.exit) result }
-{
-    match line {
-        Line::Migrate { .. } => migrate(alloc, old, new, io),
-        Line::Convert { .. } => convert(alloc, old, new, io),
-        _ => unreachable!(),
-    }
-}
-
-/// Does what a command over a category file and an expansion file says.
-fn over_expansion<S: Source, K: Sink, R: Sink>(
-    alloc: Global,
-    line: &Line,
-    spec: &Accepted,
-    expansion: &AcceptedExpansion,
-    io: Channels<'_, S, K, R>,
-) -> Result<Outcome, JobStop>
-    requires { IsLoadedFor line.now (LoadedOf.WithExpansion spec.now expansion.now) }
-    ensures { RunsLine line.now (given_of (LoadedOf.WithExpansion spec.now expansion.now)) (changes S.Source K.Sink R.Sink io.entry io.exit) result }
-{
-    match line {
-        Line::Expand { .. } => expand(alloc, spec, expansion, io),
-        _ => unreachable!(),
-    }
-}
-
 /// Does what the command says, over what its files give.
 pub(crate) fn do_task<S: Source, K: Sink, R: Sink>(
     alloc: Global,
@@ -335,12 +268,25 @@ pub(crate) fn do_task<S: Source, K: Sink, R: Sink>(
     ensures { RunsLine line.now (given_of loaded.now) (changes S.Source K.Sink R.Sink io.entry io.exit) result }
 {
     match loaded {
-        Loaded::Nothing => Ok(over_nothing(line, io)),
-        Loaded::One(spec) => over_one(alloc, line, spec, io),
+        Loaded::Nothing => match line {
+            Line::Help => Ok(write_out(HELP, 0, io)),
+            Line::Version => Ok(write_out(VERSION, 0, io)),
+            _ => unreachable!(),
+        },
+        Loaded::One(spec) => match line {
+            Line::Check { .. } => check(alloc, spec, io),
+            Line::Trial { seed, count, .. } => trial(alloc, spec, *seed, *count, io),
+            _ => unreachable!(),
+        },
         Loaded::Catalogue(catalogue) => over_catalogue(alloc, line, catalogue, io),
-        Loaded::Editions(old, new) => over_editions(alloc, line, old, new, io),
-        Loaded::WithExpansion(spec, expansion) => {
-            over_expansion(alloc, line, spec, expansion, io)
-        }
+        Loaded::Editions(old, new) => match line {
+            Line::Migrate { .. } => migrate(alloc, old, new, io),
+            Line::Convert { .. } => convert(alloc, old, new, io),
+            _ => unreachable!(),
+        },
+        Loaded::WithExpansion(spec, expansion) => match line {
+            Line::Expand { .. } => expand(alloc, spec, expansion, io),
+            _ => unreachable!(),
+        },
     }
 }

@@ -22,8 +22,8 @@ use Rattle.ax_blocks.specs.Ending.{longest_input}
 use Rattle.ax_blocks.specs.Streams.{IsCaused}
 use Rattle.ax_blocks.specs.declared.end.StreamEnd.{StreamEnd}
 use Rattle.ax_blocks.specs.declared.end.StreamEnd.TheVariants as EndOf
-use Rattle.ax_app.specs.Jobs.{CommandJob, writes, each_block, builds, salvages, refuses, TextEnds, written, cut, no_memory, JobRuns}
-use Rattle.ax_app.specs.Running.{Runs, at_words, no_words, at_files, before_input, in_job, Causes}
+use Rattle.ax_app.specs.Tasks.{Task, writes, each_block, builds, salvages, refuses, TextEnds, written, cut, no_memory, TaskRuns}
+use Rattle.ax_app.specs.Running.{Runs, at_words, no_words, at_files, before_input, in_task, Causes}
 use Rattle.ax_app.specs.Salvages.{outcome_of_salvage}
 
 -- a fault of the outside comes only where its count rose, and a limit only where more octets were taken
@@ -92,19 +92,19 @@ module _ (i : SourceChange) (o r : SinkChange) where
   caused_by_salvage SalvageEndOf.WriteFault h = h
   caused_by_salvage SalvageEndOf.ReportFault h = h
 
-  caused_in_job : (job : CommandJob) (outcome : Outcome) → JobRuns job i o r outcome → IsCausedBy i o r outcome
-  caused_in_job (writes count text) outcome h = caused_by_text count text outcome h.ends
-  caused_in_job (each_block c) outcome h = subst (IsCausedBy i o r) (sym h.is) (caused_by_blocks h.end h.runs.caused)
-  caused_in_job (builds catalogue) outcome h = subst (IsCausedBy i o r) (sym h.is) (caused_by_lines h.end h.runs.caused)
-  caused_in_job (salvages catalogue) outcome h = subst (IsCausedBy i o r) (sym h.is) (caused_by_salvage h.end h.runs.caused)
-  caused_in_job (refuses refusal) outcome h = absurd h
+  caused_in_task : (task : Task) (outcome : Outcome) → TaskRuns task i o r outcome → IsCausedBy i o r outcome
+  caused_in_task (writes count text) outcome h = caused_by_text count text outcome h.ends
+  caused_in_task (each_block c) outcome h = subst (IsCausedBy i o r) (sym h.is) (caused_by_blocks h.end h.runs.caused)
+  caused_in_task (builds catalogue) outcome h = subst (IsCausedBy i o r) (sym h.is) (caused_by_lines h.end h.runs.caused)
+  caused_in_task (salvages catalogue) outcome h = subst (IsCausedBy i o r) (sym h.is) (caused_by_salvage h.end h.runs.caused)
+  caused_in_task (refuses refusal) outcome h = absurd h
 
   caused : (words : List (List ℕ)) (files : Option (List File)) (c : LibraryCounts) (outcome : Outcome) → Runs words files c i o r outcome → IsCausedBy i o r outcome
   caused words files c outcome (at_words none is unasked idle) = subst (IsCausedBy i o r) (sym is) tt
   caused words files c outcome (no_words is unasked idle) = subst (IsCausedBy i o r) (sym is) tt
   caused words files c outcome (at_files stop h loads is idle) = subst (IsCausedBy i o r) (sym is) (caused_at_files stop)
   caused words files c outcome (before_input stop h loads is idle) = subst (IsCausedBy i o r) (sym is) (caused_before stop)
-  caused words files c outcome (in_job job d loads h) = caused_in_job job outcome h
+  caused words files c outcome (in_task task d loads h) = caused_in_task task outcome h
 
 pub causes : (words : List (List ℕ)) (files : Option (List File)) (c : LibraryCounts) (i : SourceChange) (o r : SinkChange) (outcome : Outcome) → Runs words files c i o r outcome → Causes i o r outcome
 causes words files c i o r outcome runs =

@@ -1,8 +1,8 @@
 -- Ends of the block loop whose work takes no memory.
-use Rattle.std.proofs.Common.{◌≡◌, ℕ, ◌≤◌, ◌<◌, ◌⊎◌, inl, inr, List, [], Some, length, sym, ◌∙◌, ap, arith}
+use Rattle.std.proofs.Common.{◌≡◌, ℕ, ◌≤◌, ◌⊎◌, inl, inr, List, Some, length, ap}
 use Rattle.ax_bits.specs.Bits.{AreOctets}
-use Rattle.ax_app.specs.Ends.{as_stream, IsOfMigration}
-use Rattle.ax_app.specs.Working.{IsDoneWithAll, IsMigration, NoneRose, work_command}
+use Rattle.ax_app.specs.Ends.{as_stream}
+use Rattle.ax_app.specs.Working.{IsDoneWithAll, NoneRose}
 use Rattle.ax_app.specs.declared.end.DriveEnd.{DriveEnd}
 use Rattle.ax_app.specs.declared.end.DriveEnd.TheVariants.{Done, InputRefused, MigratedTooLong, InputTooLong, ReadFault, WriteFault, ReportFault}
 use Rattle.ax_format.specs.Blocks.{BlockTree, SpellsStream}

@@ -17,7 +17,7 @@ use Rattle.ax_blocks.specs.declared.end.StreamEnd.{StreamEnd}
 use Rattle.ax_blocks.specs.declared.end.StreamEnd.TheVariants as EndOf
 use Rattle.ax_app.specs.Salvages.{outcome_of_salvage}
 
--- an outcome that a run may have before it comes to its job
+-- an outcome that a run may have before it comes to its task
 abbrev pub IsEarly : Outcome → Type 0
 IsEarly (SpecRefused file fault) = Unit {0}
 IsEarly (CategoryTwice file category) = Unit {0}

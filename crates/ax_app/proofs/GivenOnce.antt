@@ -1,5 +1,5 @@
 -- The files of a line give one thing, or end the run in one way.
-use Rattle.std.proofs.Common.{◌≡◌, ◌≢◌, ℕ, ◌⊎◌, inl, inr, List, [], ◌∷◌, Option, Some, None, length, refl, sym, ◌∙◌, ap, subst}
+use Rattle.std.proofs.Common.{◌≡◌, ◌≢◌, ℕ, List, Option, Some, None, length, refl, sym, ◌∙◌, ap, subst}
 use Rattle.ax_expand.specs.Expansion.{ExpansionTree}
 use Rattle.ax_load.proofs.EndsOnce.{loading_ends_once, stops_once, stops_told}
 use Rattle.ax_load.proofs.ExpansionsOnce.{expansion_files_are_one}

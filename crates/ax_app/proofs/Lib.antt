@@ -1,7 +1,5 @@
 pub mod Causing
-pub mod Checks
 pub mod Commands
-pub mod Editions
 pub mod Ending
 pub mod Ends
 pub mod Expansions
@@ -14,8 +12,9 @@ pub mod Obeying
 pub mod Once
 pub mod OwnOutcomes
 pub mod Passing
+pub mod Rows
 pub mod SalvagedWhole
 pub mod Stages
 pub mod TakenHeadline
-pub mod Trials
+pub mod TwoEditions
 pub mod WholeRun

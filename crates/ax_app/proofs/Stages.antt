@@ -20,7 +20,7 @@ use Rattle.ax_lines.specs.Runs as OfLines
 use Rattle.ax_lines.specs.declared.end.LinesEnd.{LinesEnd}
 use Rattle.ax_lines.specs.declared.end.LinesEnd.TheVariants as LinesEndOf
 use Rattle.ax_load.specs.Languages.{Language, category_files, expansion_files}
-use Rattle.ax_load.specs.Loading.{FilesGive, FilesEnd, StopsAtFile, EndsAtFile, by_file, by_category, IsRefusedFile, from_load, taken_by}
+use Rattle.ax_load.specs.Loading.{StopsAtFile, EndsAtFile, by_file, by_category, IsRefusedFile, from_load, taken_by}
 use Rattle.ax_load.specs.declared.fault.LoadStop.{LoadStop}
 use Rattle.ax_load.specs.declared.fault.LoadStop.TheVariants as LoadStopOf
 use Rattle.ax_load.specs.declared.fault.SpecFault.{SpecFault}
@@ -47,15 +47,15 @@ use Rattle.ax_words.specs.declared.line.Line.{Line}
 use Rattle.ax_app.proofs.Ends.{IsEarly, stop_is_early, job_stop_is_early, no_usage_of_blocks, no_usage_of_lines, no_usage_of_salvage, done_of_blocks, done_of_lines, done_of_salvage}
 use Rattle.ax_words.proofs.Once.{once as shape_once}
 use Rattle.ax_app.proofs.GivenOnce.{line_ends_for_memory}
-use Rattle.ax_app.proofs.Once.{does_once, IsGood, good_job}
+use Rattle.ax_app.proofs.Once.{does_once, IsGood, good_task}
 use Rattle.ax_app.proofs.SalvagedWhole.{salvage_completes, salvage_reads}
-use Rattle.ax_app.specs.Answer.{by_words, by_files, by_refusal, by_job}
+use Rattle.ax_app.specs.Answer.{by_words, by_files, by_refusal, by_task}
 use Rattle.ax_app.specs.Completing.{NoFaultCounted, HasWhole, IsDoneWith}
-use Rattle.ax_app.specs.Given.{LineGives, LineEnds, in_specs, in_expansion, files_of, takes_distinct, expansion_of}
-use Rattle.ax_app.specs.Headline.{Headline, answered, stopped_at_words, stopped_at_files, stopped_before_input, stopped_in_job, IsHindrance, of_library, of_memory}
-use Rattle.ax_app.specs.Jobs.{CommandJob, writes, each_block, builds, salvages, refuses, ReadsInput, TextEnds, written, cut, no_memory, JobRuns}
+use Rattle.ax_app.specs.Given.{LineGives, LineEnds, in_specs, in_expansion, files_of, takes_distinct}
+use Rattle.ax_app.specs.Headline.{Headline, answered, stopped_at_words, stopped_at_files, stopped_before_input, stopped_in_task, IsHindrance, of_library, of_memory}
+use Rattle.ax_app.specs.Tasks.{Task, writes, each_block, builds, salvages, refuses, ReadsInput, TextEnds, written, cut, no_memory, TaskRuns}
 use Rattle.ax_app.specs.Salvages.{outcome_of_salvage}
-use Rattle.ax_app.specs.Running.{Does, StopsAtFiles, StopsBeforeInput, Runs, at_words, no_words, at_files, before_input, in_job, Causes}
+use Rattle.ax_app.specs.Running.{Does, StopsAtFiles, StopsBeforeInput, Runs, at_words, no_words, at_files, before_input, in_task, Causes}
 
 -- ---- usage
 
@@ -67,26 +67,26 @@ no_usage_of_text count text o outcome (written is h still) e = absurd (let x : D
 no_usage_of_text count text o outcome (cut is h once) e = absurd (let x : WriteFault ≡ Usage = sym is ∙ e in cc)
 no_usage_of_text count text o outcome (no_memory is h still) e = absurd (let x : OutOfMemory ≡ Usage = sym is ∙ e in cc)
 
-no_usage_in_job : (job : CommandJob) (i : SourceChange) (o r : SinkChange) (outcome : Outcome) → JobRuns job i o r outcome → outcome ≡ Usage → ⊥
-no_usage_in_job (writes count text) i o r outcome h e = no_usage_of_text count text o outcome h.ends e
-no_usage_in_job (each_block c) i o r outcome h e = no_usage_of_blocks h.end (sym h.is ∙ e)
-no_usage_in_job (builds catalogue) i o r outcome h e = no_usage_of_lines h.end (sym h.is ∙ e)
-no_usage_in_job (salvages catalogue) i o r outcome h e = no_usage_of_salvage h.end (sym h.is ∙ e)
-no_usage_in_job (refuses refusal) i o r outcome h e = h
+no_usage_in_task : (task : Task) (i : SourceChange) (o r : SinkChange) (outcome : Outcome) → TaskRuns task i o r outcome → outcome ≡ Usage → ⊥
+no_usage_in_task (writes count text) i o r outcome h e = no_usage_of_text count text o outcome h.ends e
+no_usage_in_task (each_block c) i o r outcome h e = no_usage_of_blocks h.end (sym h.is ∙ e)
+no_usage_in_task (builds catalogue) i o r outcome h e = no_usage_of_lines h.end (sym h.is ∙ e)
+no_usage_in_task (salvages catalogue) i o r outcome h e = no_usage_of_salvage h.end (sym h.is ∙ e)
+no_usage_in_task (refuses refusal) i o r outcome h e = h
 
 pub usage_only : (words : List (List ℕ)) (files : Option (List File)) (c : LibraryCounts) (i : SourceChange) (o r : SinkChange) (outcome : Outcome) → Runs words files c i o r outcome → outcome ≡ Usage → HasNoShape words
 usage_only words files c i o r outcome (at_words none is unasked idle) e = none
 usage_only words files c i o r outcome (no_words is unasked idle) e = absurd (let x : OutOfMemory ≡ Usage = sym is ∙ e in cc)
 usage_only words files c i o r outcome (at_files stop h loads is idle) e = absurd (subst IsEarly (sym is ∙ e) (stop_is_early stop))
 usage_only words files c i o r outcome (before_input stop h loads is idle) e = absurd (subst IsEarly (sym is ∙ e) (job_stop_is_early stop))
-usage_only words files c i o r outcome (in_job job d loads h) e = absurd (no_usage_in_job job i o r outcome h e)
+usage_only words files c i o r outcome (in_task task d loads h) e = absurd (no_usage_in_task task i o r outcome h e)
 
 pub usage_there : (words : List (List ℕ)) (files : Option (List File)) (c : LibraryCounts) (i : SourceChange) (o r : SinkChange) (outcome : Outcome) → Runs words files c i o r outcome → HasNoShape words → (outcome ≡ Usage) ⊎ (outcome ≡ OutOfMemory)
 usage_there words files c i o r outcome (at_words none is unasked idle) e = inl is
 usage_there words files c i o r outcome (no_words is unasked idle) e = inr is
 usage_there words files c i o r outcome (at_files stop h loads is idle) e = absurd (e h.what h.shape)
 usage_there words files c i o r outcome (before_input stop h loads is idle) e = absurd (e h.what h.shape)
-usage_there words files c i o r outcome (in_job job d loads h) e = absurd (e d.what d.shape)
+usage_there words files c i o r outcome (in_task task d loads h) e = absurd (e d.what d.shape)
 
 -- ---- the told headline: files
 
@@ -137,39 +137,39 @@ files_headline words files c input i o r outcome stop h is idle (inl hindered) =
 files_headline words files c input i o r outcome stop h is idle (inr b) =
     answered [] [] (by_files stop (record { what = h.what; shape = h.shape; ends = b.ends }) b.not_memory is refl refl) (idle.out ∙ sym (with_end-nil o.held)) (idle.report ∙ sym (with_end-nil r.held))
 
--- ---- the told headline: jobs
+-- ---- the told headline: tasks
 
 pub text_headline : (words : List (List ℕ)) (files : List File) (c : LibraryCounts) (input : List ℕ) (i : SourceChange) (o r : SinkChange) (outcome : Outcome) (count : ℕ) (text : List ℕ) → Does words (Some files) (writes count text)
     → IsUntouched i → GainsNothing r → TextEnds count text o outcome → Headline words files c input i o r outcome
 text_headline words files c input i o r outcome count text d idle none (written done h quiet) =
-    answered text [] (by_job (writes count text) d (record { done = done; written_is = refl; reported_is = refl })) h (none ∙ sym (with_end-nil r.held))
-text_headline words files c input i o r outcome count text d idle none (cut e h once) = stopped_in_job (writes count text) d (record { ends = inl (e, h); untouched = idle; report = none })
-text_headline words files c input i o r outcome count text d idle none (no_memory e h still) = stopped_in_job (writes count text) d (record { ends = inr (e, h); untouched = idle; report = none })
+    answered text [] (by_task (writes count text) d (record { done = done; written_is = refl; reported_is = refl })) h (none ∙ sym (with_end-nil r.held))
+text_headline words files c input i o r outcome count text d idle none (cut e h once) = stopped_in_task (writes count text) d (record { ends = inl (e, h); untouched = idle; report = none })
+text_headline words files c input i o r outcome count text d idle none (no_memory e h still) = stopped_in_task (writes count text) d (record { ends = inr (e, h); untouched = idle; report = none })
 
 pub blocks_headline : (words : List (List ℕ)) (files : List File) (c : LibraryCounts) (input : List ℕ) (i : SourceChange) (o r : SinkChange) (outcome : Outcome) (k : BlockCommand) (end : StreamEnd) → Does words (Some files) (each_block k)
     → outcome ≡ outcome_of_end end → ToldRun k longest_input input i.left' o r end → Headline words files c input i o r outcome
 blocks_headline words files c input i o r outcome k end d is (inl a) =
-    answered _ _ (by_job (each_block k) d (record { blocks = a.blocks; end = end; answers = a.answers; is = is; written_is = refl; reported_is = refl })) a.out a.report
-blocks_headline words files c input i o r outcome k end d is (inr stops) = stopped_in_job (each_block k) d (record { end = end; stops = stops; is = is })
+    answered _ _ (by_task (each_block k) d (record { blocks = a.blocks; end = end; answers = a.answers; is = is; written_is = refl; reported_is = refl })) a.out a.report
+blocks_headline words files c input i o r outcome k end d is (inr stops) = stopped_in_task (each_block k) d (record { end = end; stops = stops; is = is })
 
 pub lines_headline : (words : List (List ℕ)) (files : List File) (c : LibraryCounts) (input : List ℕ) (i : SourceChange) (o r : SinkChange) (outcome : Outcome) (catalogue : List SpecTree) (end : LinesEnd TextFault) → Does words (Some files) (builds catalogue)
     → outcome ≡ outcome_of_lines end → GainsNothing r → OfLines.ToldRun (build_command catalogue) longest_line longest_input input i.left' o end → Headline words files c input i o r outcome
 lines_headline words files c input i o r outcome catalogue end d is none (inl a) =
-    answered _ [] (by_job (builds catalogue) d (record { lines = a.lines; answers = a.answers; end = end; ends = a.ends; is = is; written_is = refl; reported_is = refl })) a.out (none ∙ sym (with_end-nil r.held))
-lines_headline words files c input i o r outcome catalogue end d is none (inr stops) = stopped_in_job (builds catalogue) d (record { end = end; stops = stops; is = is; report = none })
+    answered _ [] (by_task (builds catalogue) d (record { lines = a.lines; answers = a.answers; end = end; ends = a.ends; is = is; written_is = refl; reported_is = refl })) a.out (none ∙ sym (with_end-nil r.held))
+lines_headline words files c input i o r outcome catalogue end d is none (inr stops) = stopped_in_task (builds catalogue) d (record { end = end; stops = stops; is = is; report = none })
 
 pub salvage_headline : (words : List (List ℕ)) (files : List File) (c : LibraryCounts) (input : List ℕ) (i : SourceChange) (o r : SinkChange) (outcome : Outcome) (catalogue : List SpecTree) (end : SalvageEnd) → Does words (Some files) (salvages catalogue)
     → outcome ≡ outcome_of_salvage end → SalvageAnswers catalogue longest_input input i.left' o r end ⊎ SalvageStops catalogue longest_input input i.left' o r end → Headline words files c input i o r outcome
-salvage_headline words files c input i o r outcome catalogue end d is (inl a) = answered a.out a.report (by_job (salvages catalogue) d (record { end = end; salvaged = a.salvaged; is = is })) a.wrote a.reported
-salvage_headline words files c input i o r outcome catalogue end d is (inr stops) = stopped_in_job (salvages catalogue) d (record { end = end; stops = stops; is = is })
+salvage_headline words files c input i o r outcome catalogue end d is (inl a) = answered a.out a.report (by_task (salvages catalogue) d (record { end = end; salvaged = a.salvaged; is = is })) a.wrote a.reported
+salvage_headline words files c input i o r outcome catalogue end d is (inr stops) = stopped_in_task (salvages catalogue) d (record { end = end; stops = stops; is = is })
 
-job_headline : (words : List (List ℕ)) (files : List File) (c : LibraryCounts) (input : List ℕ) (i : SourceChange) (o r : SinkChange) (outcome : Outcome) (job : CommandJob) → AreOctets input → i.left ≡ Some input
-    → Does words (Some files) job → JobRuns job i o r outcome → Headline words files c input i o r outcome
-job_headline words files c input i o r outcome (writes count text) octets left d h = text_headline words files c input i o r outcome count text d h.untouched h.report h.ends
-job_headline words files c input i o r outcome (each_block k) octets left d h = blocks_headline words files c input i o r outcome k h.end d h.is (h.runs.told input octets left)
-job_headline words files c input i o r outcome (builds catalogue) octets left d h = lines_headline words files c input i o r outcome catalogue h.end d h.is h.report (h.runs.told input left)
-job_headline words files c input i o r outcome (salvages catalogue) octets left d h = salvage_headline words files c input i o r outcome catalogue h.end d h.is (h.runs.told input octets left)
-job_headline words files c input i o r outcome (refuses refusal) octets left d h = absurd h
+task_headline : (words : List (List ℕ)) (files : List File) (c : LibraryCounts) (input : List ℕ) (i : SourceChange) (o r : SinkChange) (outcome : Outcome) (task : Task) → AreOctets input → i.left ≡ Some input
+    → Does words (Some files) task → TaskRuns task i o r outcome → Headline words files c input i o r outcome
+task_headline words files c input i o r outcome (writes count text) octets left d h = text_headline words files c input i o r outcome count text d h.untouched h.report h.ends
+task_headline words files c input i o r outcome (each_block k) octets left d h = blocks_headline words files c input i o r outcome k h.end d h.is (h.runs.told input octets left)
+task_headline words files c input i o r outcome (builds catalogue) octets left d h = lines_headline words files c input i o r outcome catalogue h.end d h.is h.report (h.runs.told input left)
+task_headline words files c input i o r outcome (salvages catalogue) octets left d h = salvage_headline words files c input i o r outcome catalogue h.end d h.is (h.runs.told input octets left)
+task_headline words files c input i o r outcome (refuses refusal) octets left d h = absurd h
 
 pub before_headline : (words : List (List ℕ)) (files : List File) (c : LibraryCounts) (input : List ℕ) (i : SourceChange) (o r : SinkChange) (outcome : Outcome) (stop : JobStop) → StopsBeforeInput words (Some files) stop → outcome ≡ outcome_of_job_stop stop → IsIdle i o r
     → Headline words files c input i o r outcome
@@ -184,7 +184,7 @@ told_headline words files c input i o r outcome octets left (no_words is unasked
 told_headline words files c input i o r outcome octets left (at_files stop h loads is idle) =
     files_headline words files c input i o r outcome stop h is idle (at_files_of h.what files c stop h.ends)
 told_headline words files c input i o r outcome octets left (before_input stop h loads is idle) = before_headline words files c input i o r outcome stop h is idle
-told_headline words files c input i o r outcome octets left (in_job job d loads h) = job_headline words files c input i o r outcome job octets left d h
+told_headline words files c input i o r outcome octets left (in_task task d loads h) = task_headline words files c input i o r outcome task octets left d h
 
 pub headline : (words : List (List ℕ)) (told : Option (List File)) (files : List File) (c : LibraryCounts) (input : List ℕ) (i : SourceChange) (o r : SinkChange) (outcome : Outcome) → told ≡ Some files → AreOctets input → i.left ≡ Some input
     → Runs words told c i o r outcome → Headline words files c input i o r outcome
@@ -213,39 +213,39 @@ same_whole outcome n count o r text all lines said a b c (inl memory) = inl memo
 same_whole outcome n count o r text all lines said a b c (inr (done, out, report)) = inr (done ∙ ap Done (sym a), out ∙ ap (with_end o.held) (sym b), report ∙ ap (with_end r.held) (sym c))
 
 module _ (input : List ℕ) (i : SourceChange) (o r : SinkChange) (outcome : Outcome) (count : ℕ) (all said : List ℕ) (octets : AreOctets input) (left : i.left ≡ Some input) (source : Rose i.faults i.faults' → ⊥) (out : Rose o.faults o.faults' → ⊥) (report : Rose r.faults r.faults' → ⊥) where
-  job_completes : (job : CommandJob) → IsGood job → HasWhole job input count all said → JobRuns job i o r outcome → IsDoneWith outcome count o r all said
-  job_completes (writes blocks text) good can h = same_whole outcome blocks count o r text all [] said can.count_is can.written_is can.reported_is (text_completes blocks text o r outcome h.report out h.ends)
-  job_completes (each_block k) good can h =
+  task_completes : (task : Task) → IsGood task → HasWhole task input count all said → TaskRuns task i o r outcome → IsDoneWith outcome count o r all said
+  task_completes (writes blocks text) good can h = same_whole outcome blocks count o r text all [] said can.count_is can.written_is can.reported_is (text_completes blocks text o r outcome h.report out h.ends)
+  task_completes (each_block k) good can h =
       same_whole outcome (length can.blocks) count o r (output_of k 0 can.blocks) all (report_of k 0 can.blocks) said can.count_is can.written_is can.reported_is
       (blocks_complete k can.blocks o r h.end outcome h.is (stream_completes k longest_input input can.blocks i o r h.end can.spelled can.within can.given octets left source out report h.runs))
-  job_completes (builds catalogue) good can h =
+  task_completes (builds catalogue) good can h =
       same_whole outcome (Lines.results_of can.answers) count o r (Lines.output_of can.answers) all [] said can.count_is can.written_is can.reported_is
       (lines_done can.answers o r h.end outcome h.is h.report
       (lines_complete (build_command catalogue) longest_line longest_input longest_line longest_input i o h.end refl refl h.runs (build_once catalogue good) input can.lines can.answers left can.lined can.answered source out))
-  job_completes (salvages catalogue) good can h = salvage_completes catalogue input i o r h.end outcome count all said good octets left source out report h.runs h.is can
-  job_completes (refuses refusal) good can h = absurd can
+  task_completes (salvages catalogue) good can h = salvage_completes catalogue input i o r h.end outcome count all said good octets left source out report h.runs h.is can
+  task_completes (refuses refusal) good can h = absurd can
 
--- a job with a whole result isn't refused
-not_refused : (words : List (List ℕ)) (files : List File) (input : List ℕ) (job : CommandJob) (count : ℕ) (all said : List ℕ) (stop : JobStop) → Does words (Some files) job → HasWhole job input count all said → StopsBeforeInput words (Some files) stop → stop ≡ JobStopOf.OutOfMemory
-not_refused words files input job count all said (JobStopOf.Refused refusal) d can h =
-    let same : job ≡ refuses refusal = does_once words files job (refuses refusal) d (record { what = h.what; shape = h.shape; given = h.given; give = h.give; is = h.stopped }) in
+-- a task with a whole result isn't refused
+not_refused : (words : List (List ℕ)) (files : List File) (input : List ℕ) (task : Task) (count : ℕ) (all said : List ℕ) (stop : JobStop) → Does words (Some files) task → HasWhole task input count all said → StopsBeforeInput words (Some files) stop → stop ≡ JobStopOf.OutOfMemory
+not_refused words files input task count all said (JobStopOf.Refused refusal) d can h =
+    let same : task ≡ refuses refusal = does_once words files task (refuses refusal) d (record { what = h.what; shape = h.shape; given = h.given; give = h.give; is = h.stopped }) in
     absurd (subst (λ j. HasWhole j input count all said) same can)
-not_refused words files input job count all said JobStopOf.OutOfMemory d can h = refl
+not_refused words files input task count all said JobStopOf.OutOfMemory d can h = refl
 
-run_completes : (words : List (List ℕ)) (files : List File) (c : LibraryCounts) (input : List ℕ) (i : SourceChange) (o r : SinkChange) (outcome : Outcome) (job : CommandJob) (count : ℕ) (all said : List ℕ) → AreOctets input → i.left ≡ Some input
-    → (Rose c.faults c.faults' → ⊥) → (Rose i.faults i.faults' → ⊥) → (Rose o.faults o.faults' → ⊥) → (Rose r.faults r.faults' → ⊥) → Does words (Some files) job → HasWhole job input count all said → Runs words (Some files) c i o r outcome
+run_completes : (words : List (List ℕ)) (files : List File) (c : LibraryCounts) (input : List ℕ) (i : SourceChange) (o r : SinkChange) (outcome : Outcome) (task : Task) (count : ℕ) (all said : List ℕ) → AreOctets input → i.left ≡ Some input
+    → (Rose c.faults c.faults' → ⊥) → (Rose i.faults i.faults' → ⊥) → (Rose o.faults o.faults' → ⊥) → (Rose r.faults r.faults' → ⊥) → Does words (Some files) task → HasWhole task input count all said → Runs words (Some files) c i o r outcome
     → IsDoneWith outcome count o r all said
-run_completes words files c input i o r outcome job count all said octets left library source out report d can (at_words none is unasked idle) = absurd (none d.what d.shape)
-run_completes words files c input i o r outcome job count all said octets left library source out report d can (no_words is unasked idle) = inl is
-run_completes words files c input i o r outcome job count all said octets left library source out report d can (at_files stop h loads is idle) =
+run_completes words files c input i o r outcome task count all said octets left library source out report d can (at_words none is unasked idle) = absurd (none d.what d.shape)
+run_completes words files c input i o r outcome task count all said octets left library source out report d can (no_words is unasked idle) = inl is
+run_completes words files c input i o r outcome task count all said octets left library source out report d can (at_files stop h loads is idle) =
     let same : d.what ≡ h.what = shape_once words d.what h.what d.shape h.shape in
     let memory : stop ≡ LoadStopOf.OutOfMemory = line_ends_for_memory h.what files c d.given stop library (subst (λ w. LineGives w (Some files) d.given) same d.give) h.ends in
     inl (is ∙ ap outcome_of_stop memory)
-run_completes words files c input i o r outcome job count all said octets left library source out report d can (before_input stop h loads is idle) =
-    inl (is ∙ ap outcome_of_job_stop (not_refused words files input job count all said stop d can h))
-run_completes words files c input i o r outcome job count all said octets left library source out report d can (in_job other k loads h) =
-    let same : other ≡ job = does_once words files other job k d in
-    job_completes input i o r outcome count all said octets left source out report job (good_job words (Some files) job d) can (subst (λ j. JobRuns j i o r outcome) same h)
+run_completes words files c input i o r outcome task count all said octets left library source out report d can (before_input stop h loads is idle) =
+    inl (is ∙ ap outcome_of_job_stop (not_refused words files input task count all said stop d can h))
+run_completes words files c input i o r outcome task count all said octets left library source out report d can (in_task other k loads h) =
+    let same : other ≡ task = does_once words files other task k d in
+    task_completes input i o r outcome count all said octets left source out report task (good_task words (Some files) task d) can (subst (λ j. TaskRuns j i o r outcome) same h)
 
 -- ---- Done of a command that reads its input
 
@@ -262,22 +262,22 @@ lines_read catalogue input i o end count is (inr (OfLines.reading e s)) = absurd
 lines_read catalogue input i o end count is (inr (OfLines.writing e s)) = absurd (let x : ◌≡◌ {A = LinesEnd TextFault} (LinesEndOf.Done count) LinesEndOf.WriteFault = sym is ∙ e in cc)
 lines_read catalogue input i o end count is (inr (OfLines.for_memory e s)) = absurd (let x : ◌≡◌ {A = LinesEnd TextFault} (LinesEndOf.Done count) LinesEndOf.OutOfMemory = sym is ∙ e in cc)
 
-job_reads : (job : CommandJob) (input : List ℕ) (i : SourceChange) (o r : SinkChange) (outcome : Outcome) (count : ℕ) → AreOctets input → i.left ≡ Some input → ReadsInput job → outcome ≡ Done count → JobRuns job i o r outcome → i.left' ≡ Some []
-job_reads (writes blocks text) input i o r outcome count octets left reads done h = absurd reads
-job_reads (each_block k) input i o r outcome count octets left reads done h = blocks_read k input i o r h.end count (done_of_blocks h.end count (sym h.is ∙ done)) (h.runs.told input octets left)
-job_reads (builds catalogue) input i o r outcome count octets left reads done h = lines_read catalogue input i o h.end count (done_of_lines h.end count (sym h.is ∙ done)) (h.runs.told input left)
-job_reads (salvages catalogue) input i o r outcome count octets left reads done h = salvage_reads catalogue input i o r h.end count (done_of_salvage h.end count (sym h.is ∙ done)) (h.runs.told input octets left)
-job_reads (refuses refusal) input i o r outcome count octets left reads done h = absurd reads
+task_reads : (task : Task) (input : List ℕ) (i : SourceChange) (o r : SinkChange) (outcome : Outcome) (count : ℕ) → AreOctets input → i.left ≡ Some input → ReadsInput task → outcome ≡ Done count → TaskRuns task i o r outcome → i.left' ≡ Some []
+task_reads (writes blocks text) input i o r outcome count octets left reads done h = absurd reads
+task_reads (each_block k) input i o r outcome count octets left reads done h = blocks_read k input i o r h.end count (done_of_blocks h.end count (sym h.is ∙ done)) (h.runs.told input octets left)
+task_reads (builds catalogue) input i o r outcome count octets left reads done h = lines_read catalogue input i o h.end count (done_of_lines h.end count (sym h.is ∙ done)) (h.runs.told input left)
+task_reads (salvages catalogue) input i o r outcome count octets left reads done h = salvage_reads catalogue input i o r h.end count (done_of_salvage h.end count (sym h.is ∙ done)) (h.runs.told input octets left)
+task_reads (refuses refusal) input i o r outcome count octets left reads done h = absurd reads
 
-done_reads : (words : List (List ℕ)) (files : List File) (c : LibraryCounts) (input : List ℕ) (i : SourceChange) (o r : SinkChange) (outcome : Outcome) (job : CommandJob) (count : ℕ) → AreOctets input → i.left ≡ Some input
-    → Does words (Some files) job → ReadsInput job → outcome ≡ Done count → Runs words (Some files) c i o r outcome → i.left' ≡ Some []
-done_reads words files c input i o r outcome job count octets left d reads done (at_words none is unasked idle) = absurd (let x : Usage ≡ Done count = sym is ∙ done in cc)
-done_reads words files c input i o r outcome job count octets left d reads done (no_words is unasked idle) = absurd (let x : OutOfMemory ≡ Done count = sym is ∙ done in cc)
-done_reads words files c input i o r outcome job count octets left d reads done (at_files stop h loads is idle) = absurd (subst IsEarly (sym is ∙ done) (stop_is_early stop))
-done_reads words files c input i o r outcome job count octets left d reads done (before_input stop h loads is idle) = absurd (subst IsEarly (sym is ∙ done) (job_stop_is_early stop))
-done_reads words files c input i o r outcome job count octets left d reads done (in_job other h loads runs) =
-    let same : other ≡ job = does_once words files other job h d in
-    job_reads job input i o r outcome count octets left reads done (subst (λ j. JobRuns j i o r outcome) same runs)
+done_reads : (words : List (List ℕ)) (files : List File) (c : LibraryCounts) (input : List ℕ) (i : SourceChange) (o r : SinkChange) (outcome : Outcome) (task : Task) (count : ℕ) → AreOctets input → i.left ≡ Some input
+    → Does words (Some files) task → ReadsInput task → outcome ≡ Done count → Runs words (Some files) c i o r outcome → i.left' ≡ Some []
+done_reads words files c input i o r outcome task count octets left d reads done (at_words none is unasked idle) = absurd (let x : Usage ≡ Done count = sym is ∙ done in cc)
+done_reads words files c input i o r outcome task count octets left d reads done (no_words is unasked idle) = absurd (let x : OutOfMemory ≡ Done count = sym is ∙ done in cc)
+done_reads words files c input i o r outcome task count octets left d reads done (at_files stop h loads is idle) = absurd (subst IsEarly (sym is ∙ done) (stop_is_early stop))
+done_reads words files c input i o r outcome task count octets left d reads done (before_input stop h loads is idle) = absurd (subst IsEarly (sym is ∙ done) (job_stop_is_early stop))
+done_reads words files c input i o r outcome task count octets left d reads done (in_task other h loads runs) =
+    let same : other ≡ task = does_once words files other task h d in
+    task_reads task input i o r outcome count octets left reads done (subst (λ j. TaskRuns j i o r outcome) same runs)
 
 -- ---- the report, with the lines of the outcome last
 
@@ -314,16 +314,16 @@ done_after o held between held' faults counted faults' count all said outcome re
     inr (done, out, no_lines held between held' faults counted faults' said result a quiet report (subst (λ l. Wrote (record { held = between; held' = held'; faults = counted; faults' = faults' }) result l) none w))
 
 pub completes : (words : List (List ℕ)) (told : Option (List File)) (files : List File) (c : LibraryCounts) (input : List ℕ) (i : SourceChange) (o : SinkChange) (held between held' : Option (List ℕ)) (faults counted faults' : ℕ) (outcome : Outcome) (result : Result Unit SinkFailed)
-    (job : CommandJob) (count : ℕ) (all said : List ℕ) → faults ≤ counted → counted ≤ faults' → Wrote (record { held = between; held' = held'; faults = counted; faults' = faults' }) result (lines_of outcome)
+    (task : Task) (count : ℕ) (all said : List ℕ) → faults ≤ counted → counted ≤ faults' → Wrote (record { held = between; held' = held'; faults = counted; faults' = faults' }) result (lines_of outcome)
     → Runs words told c i o (record { held = held; held' = between; faults = faults; faults' = counted }) outcome
-    → AreOctets input → told ≡ Some files → i.left ≡ Some input → NoFaultCounted c i o (record { held = held; held' = held'; faults = faults; faults' = faults' }) → Does words (Some files) job → HasWhole job input count all said
+    → AreOctets input → told ≡ Some files → i.left ≡ Some input → NoFaultCounted c i o (record { held = held; held' = held'; faults = faults; faults' = faults' }) → Does words (Some files) task → HasWhole task input count all said
     → IsDoneWith outcome count o (record { held = held; held' = held'; faults = faults; faults' = faults' }) all said
-completes words told files c input i o held between held' faults counted faults' outcome result job count all said a b w runs octets is left quiet d can =
+completes words told files c input i o held between held' faults counted faults' outcome result task count all said a b w runs octets is left quiet d can =
     done_after o held between held' faults counted faults' count all said outcome result a quiet.report w
-    (run_completes words files c input i o (record { held = held; held' = between; faults = faults; faults' = counted }) outcome job count all said octets left quiet.library quiet.source quiet.out
+    (run_completes words files c input i o (record { held = held; held' = between; faults = faults; faults' = counted }) outcome task count all said octets left quiet.library quiet.source quiet.out
     (λ rose. quiet.report (Rose-on faults counted faults' a b rose)) d can (subst (λ t. Runs words t c i o (record { held = held; held' = between; faults = faults; faults' = counted }) outcome) is runs))
 
-pub reads_all : (words : List (List ℕ)) (told : Option (List File)) (files : List File) (c : LibraryCounts) (input : List ℕ) (i : SourceChange) (o r : SinkChange) (outcome : Outcome) (job : CommandJob) (count : ℕ) → told ≡ Some files → AreOctets input → i.left ≡ Some input
-    → Does words (Some files) job → ReadsInput job → outcome ≡ Done count → Runs words told c i o r outcome → i.left' ≡ Some []
-reads_all words told files c input i o r outcome job count is octets left d reads done runs =
-    done_reads words files c input i o r outcome job count octets left d reads done (subst (λ t. Runs words t c i o r outcome) is runs)
+pub reads_all : (words : List (List ℕ)) (told : Option (List File)) (files : List File) (c : LibraryCounts) (input : List ℕ) (i : SourceChange) (o r : SinkChange) (outcome : Outcome) (task : Task) (count : ℕ) → told ≡ Some files → AreOctets input → i.left ≡ Some input
+    → Does words (Some files) task → ReadsInput task → outcome ≡ Done count → Runs words told c i o r outcome → i.left' ≡ Some []
+reads_all words told files c input i o r outcome task count is octets left d reads done runs =
+    done_reads words files c input i o r outcome task count octets left d reads done (subst (λ t. Runs words t c i o r outcome) is runs)

@@ -35,7 +35,7 @@ is_run words files k i o held between held' faults middle faults' outcome result
   of_its_command = of_its_command _ _ _ _ _ _ _ obeys.runs;
   memory = obeys.first;
   later = later_on _ _ _ _ _ _ _ _ _ wrote.later obeys.later;
-  reads_all = λ told input job blocks octets is left d reads done. reads_all _ _ told _ input _ _ _ _ job blocks is octets left d reads done obeys.runs;
-  completes = λ told input job count written reported octets is left quiet d can.
-      completes _ _ told _ input _ _ _ _ _ _ _ _ _ _ job count written reported obeys.later.report wrote.later wrote obeys.runs octets is left quiet d can;
+  reads_all = λ told input task blocks octets is left d reads done. reads_all _ _ told _ input _ _ _ _ task blocks is octets left d reads done obeys.runs;
+  completes = λ told input task count written reported octets is left quiet d can.
+      completes _ _ told _ input _ _ _ _ _ _ _ _ _ _ task count written reported obeys.later.report wrote.later wrote obeys.runs octets is left quiet d can;
 }

@@ -1,5 +1,5 @@
 -- What the code of a command has done when it returns. An `Err` says why it didn't come to its input.
-use Rattle.std.specs.Prelude.{◌≡◌, ℕ, List, Result, IfOk, IfErr, OnErr}
+use Rattle.std.specs.Prelude.{◌≡◌, ℕ, Bool, true, false, List, [], ◌∷◌, Result, IfOk, IfErr, OnErr}
 use Rattle.ax_command.specs.declared.outcome.JobStop.{JobStop}
 use Rattle.ax_command.specs.declared.outcome.JobStop.TheVariants.{OutOfMemory}
 use Rattle.ax_command.specs.declared.outcome.Outcome.{Outcome}
@@ -7,30 +7,31 @@ use Rattle.ax_expand.specs.declared.expansion.Expansion.{Expansion}
 use Rattle.ax_filter.specs.OfCode.{catalogue_of, expression}
 use Rattle.ax_filter.specs.declared.filter.Filter.{Filter as FilterOfCode}
 use Rattle.ax_filter_work.specs.FilterCommand.{filter_command}
+use Rattle.ax_format.specs.Plain.{spec_tree}
 use Rattle.ax_format.specs.Specification.{SpecTree}
 use Rattle.ax_format.specs.declared.spec.Spec.{Spec}
 use Rattle.ax_blocks.specs.Commands.{BlockCommand}
 use Rattle.ax_blocks.specs.Streams.{IsIdle}
 use Rattle.ax_words.specs.declared.line.Line.{Line}
-use Rattle.ax_words.specs.declared.line.Line.TheVariants.{Filter, Expand}
 use Rattle.ax_endpoints.specs.Changes.{Changes}
-use Rattle.ax_app.specs.Given.{Given, only}
-use Rattle.ax_app.specs.Jobs.{CommandJob, each_block, JobRuns, RunsJob, IsStopped}
 use Rattle.ax_app.specs.Loaded.{with_expansion}
-use Rattle.ax_app.specs.Running.{NoFaultFell, WasIdle, WantsFirst}
+use Rattle.ax_app.specs.NamedFiles.{Given}
+use Rattle.ax_app.specs.Rows.{row_of, OverOne, OverEditions, IsTrialTask, IsFilterTask, ExpandsBy}
+use Rattle.ax_app.specs.Running.{NoFaultFell, WasIdle, WasIdleOr}
+use Rattle.ax_app.specs.Tasks.{Task, each_block, TaskRuns, RunsTask, IsStoppedBy}
 
--- ---- a job
+-- ---- a task
 
 -- it was run, or memory was wanting before anything was taken or written
-pub record RunsAs (job : CommandJob) (x : Changes) (result : Result Outcome JobStop) : Type 0 where
-  pub runs : IfOk result (JobRuns job x.source x.out x.report)
+pub record RunsAs (task : Task) (x : Changes) (result : Result Outcome JobStop) : Type 0 where
+  pub runs : IfOk result (TaskRuns task x.source x.out x.report)
   pub memory : IfErr result (λ stop. stop ≡ OutOfMemory)
   pub idle : OnErr result (IsIdle x.source x.out x.report)
   pub later : NoFaultFell x
 
 -- so it is, and all memory was taken before the input was read
-pub record RunsPrepared (job : CommandJob) (x : Changes) (result : Result Outcome JobStop) : Type 0 where
-  pub does : RunsAs job x result
+pub record RunsPrepared (task : Task) (x : Changes) (result : Result Outcome JobStop) : Type 0 where
+  pub does : RunsAs task x result
   pub first : IfOk result (WasIdle x)
 
 -- a command over each block of the input
@@ -44,20 +45,32 @@ RunsEachPrepared command x result = RunsPrepared (each_block command) x result
 abbrev pub RunsFilterOf : FilterOfCode → Changes → Result Outcome JobStop → Type 0
 RunsFilterOf filter x result = RunsEachPrepared (filter_command (expression filter) (catalogue_of filter)) x result
 
--- ---- a line
+-- ---- a command, by its tasks and by whether it takes memory once it reads
 
--- over what its files give its job was run, or it was stopped before anything was taken or written
-pub record RunsLine (line : Line) (given : Given) (x : Changes) (result : Result Outcome JobStop) : Type 0 where
-  pub runs : IfOk result (RunsJob line given x.source x.out x.report)
-  pub stopped : IfErr result (IsStopped line given)
-  pub first : IfOk result (WantsFirst line x)
+-- one of these tasks was run, or it was stopped before anything was taken or written
+pub record RunsCommand (IsTask : Task → Type 0) (takes_memory : Bool) (x : Changes) (result : Result Outcome JobStop) : Type 0 where
+  pub runs : IfOk result (RunsTask IsTask x.source x.out x.report)
+  pub stopped : IfErr result (IsStoppedBy IsTask)
+  pub first : IfOk result (WasIdleOr takes_memory x)
   pub idle : OnErr result (IsIdle x.source x.out x.report)
   pub later : NoFaultFell x
 
--- `filter` of that expression, whatever its files are called
-abbrev pub RunsFilter : List ℕ → List SpecTree → Changes → Result Outcome JobStop → Type 0
-RunsFilter expression specs x result = (files : List (List ℕ)) → RunsLine (Filter expression files) (only specs) x result
+-- over what its files gave, that of a line
+abbrev pub RunsLine : Line → Given → Changes → Result Outcome JobStop → Type 0
+RunsLine line given x result = RunsCommand ((row_of line).IsTask given) (row_of line).may.takes_memory x result
 
--- `expand`, whatever its two files are called
+-- `trial` over a specification
+abbrev pub RunsTrial : ℕ → ℕ → Spec → Changes → Result Outcome JobStop → Type 0
+RunsTrial seed count spec x result = RunsCommand (OverOne (IsTrialTask seed count) (spec_tree spec ∷ [])) false x result
+
+-- `filter` of that expression
+abbrev pub RunsFilter : List ℕ → List SpecTree → Changes → Result Outcome JobStop → Type 0
+RunsFilter expression specs x result = RunsCommand (IsFilterTask expression specs) false x result
+
+-- that command over two editions
+abbrev pub RunsEditions : (SpecTree → SpecTree → BlockCommand) → Bool → Spec → Spec → Changes → Result Outcome JobStop → Type 0
+RunsEditions command takes_memory old new x result = RunsCommand (OverEditions command (spec_tree old ∷ spec_tree new ∷ [])) takes_memory x result
+
+-- `expand`
 abbrev pub RunsExpand : Spec → Expansion → Changes → Result Outcome JobStop → Type 0
-RunsExpand spec expansion x result = (names : List ℕ × List ℕ) → RunsLine (Expand names.0 names.1) (with_expansion spec expansion) x result
+RunsExpand spec expansion x result = RunsCommand (ExpandsBy (with_expansion spec expansion)) true x result

@@ -15,16 +15,23 @@ abbrev pub CountsAt : LoadStop → LibraryCounts → Type 0
 CountsAt (LoadFault file) c = c.faults' ≤ c.faults + 1
 CountsAt _ c = c.faults' ≡ c.faults
 
--- each file of the line was loaded once, in order, and no other; of a line without files nothing was
-pub record LoadsAll (what : Line) (files : Option (List File)) (c : LibraryCounts) : Type 0 where
+-- each file of these names was loaded once, in order, and no other; where there are none nothing was asked
+pub record LoadsEach (names : List (List ℕ)) (files : Option (List File)) (c : LibraryCounts) : Type 0 where
   pub quiet : c.faults' ≡ c.faults
-  pub took : TookFiles files c.taken c.taken' (all_files_of what)
-  pub unasked : all_files_of what ≡ [] → IsUnasked c
+  pub took : TookFiles files c.taken c.taken' names
+  pub unasked : names ≡ [] → IsUnasked c
 
 -- so were those as far as the one at which loading stops
-pub record LoadsThrough (what : Line) (files : Option (List File)) (c : LibraryCounts) (stop : LoadStop) : Type 0 where
+pub record LoadsUpTo (names : List (List ℕ)) (files : Option (List File)) (c : LibraryCounts) (stop : LoadStop) : Type 0 where
   pub counts : CountsAt stop c
-  pub took : TookThrough files c.taken c.taken' (all_files_of what) stop
+  pub took : TookThrough files c.taken c.taken' names stop
+
+-- of the files of a line
+abbrev pub LoadsAll : Line → Option (List File) → LibraryCounts → Type 0
+LoadsAll what files c = LoadsEach (all_files_of what) files c
+
+abbrev pub LoadsThrough : Line → Option (List File) → LibraryCounts → LoadStop → Type 0
+LoadsThrough what files c stop = LoadsUpTo (all_files_of what) files c stop
 
 -- the counts of the library, the source and the two sinks
 pub record NoneCounted (c : LibraryCounts) (i : SourceChange) (o r : SinkChange) : Type 0 where

@@ -15,7 +15,7 @@ use Rattle.ax_app.specs.Completing.{NoFaultCounted, HasWhole, IsDoneWith}
 use Rattle.ax_app.specs.Counting.{LoadsAll, CountsOnly}
 use Rattle.ax_app.specs.Given.{Given, LineGives}
 use Rattle.ax_app.specs.Headline.{Headline, HeadlineOfTaken}
-use Rattle.ax_app.specs.Jobs.{CommandJob, ReadsInput}
+use Rattle.ax_app.specs.Tasks.{Task, ReadsInput}
 use Rattle.ax_app.specs.Running.{Runs, Does, Causes, LinesSplit, before_lines, NoCountFell, NoFaultFell, WantsFirst, AsksForMemory, IsOfItsCommand}
 
 -- the octets of each word
@@ -75,11 +75,11 @@ pub record IsRun (words : List (List ℕ)) (w : Outside) (outcome : Outcome) : T
   pub memory : WantsMemory words w.io outcome
   pub later : NoCountFell w.library w.io.source w.io.out w.io.report
   -- at Done of a command that reads its input
-  pub reads_all : (files : List File) (input : List ℕ) (job : CommandJob) (blocks : ℕ) → AreOctets input → w.files ≡ Some files → w.io.source.left ≡ Some input
-      → Does words (Some files) job → ReadsInput job → outcome ≡ Done blocks → w.io.source.left' ≡ Some []
+  pub reads_all : (files : List File) (input : List ℕ) (task : Task) (blocks : ℕ) → AreOctets input → w.files ≡ Some files → w.io.source.left ≡ Some input
+      → Does words (Some files) task → ReadsInput task → outcome ≡ Done blocks → w.io.source.left' ≡ Some []
   -- where nothing stands in the way
-  pub completes : (files : List File) (input : List ℕ) (job : CommandJob) (count : ℕ) (written reported : List ℕ) → AreOctets input → w.files ≡ Some files → w.io.source.left ≡ Some input
-      → NoFaultCounted w.library w.io.source w.io.out w.io.report → Does words (Some files) job → HasWhole job input count written reported
+  pub completes : (files : List File) (input : List ℕ) (task : Task) (count : ℕ) (written reported : List ℕ) → AreOctets input → w.files ≡ Some files → w.io.source.left ≡ Some input
+      → NoFaultCounted w.library w.io.source w.io.out w.io.report → Does words (Some files) task → HasWhole task input count written reported
       → IsDoneWith outcome count w.io.out w.io.report written reported
 
 -- of these words, over a library, a source and two sinks, each before and after

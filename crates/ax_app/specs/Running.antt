@@ -1,9 +1,11 @@
 -- What a run does, stage by stage, whatever the library, the source and the sinks tell.
-use Rattle.std.specs.Prelude.{◌≡◌, ℕ, ◌+◌, ◌<◌, ◌≤◌, ◌⊎◌, List, Option}
+use Rattle.std.specs.Prelude.{◌≡◌, ℕ, ◌+◌, ◌<◌, ◌≤◌, ◌⊎◌, Bool, IsTrue, List, Option}
 use Rattle.ax_command.specs.Outcomes.{outcome_of_stop, outcome_of_job_stop}
 use Rattle.ax_command.specs.declared.outcome.JobStop.{JobStop}
 use Rattle.ax_command.specs.declared.outcome.Outcome.{Outcome}
 use Rattle.ax_command.specs.declared.outcome.Outcome.TheVariants.{Usage, OtherCategory, ExpansionUnused, FilterRefused, TextRefused, MigratedTooLong, ReadFault, WriteFault, ReportFault, InputTooLong, OutOfMemory}
+use Rattle.ax_command.specs.declared.outcome.Refusal.{Refusal}
+use Rattle.ax_command.specs.declared.outcome.Refusal.TheVariants as RefusalOf
 use Rattle.ax_load.specs.declared.fault.LoadStop.{LoadStop}
 use Rattle.ax_endpoints.specs.Changes.{Changes, LibraryCounts, SourceChange, SinkChange, IsUntouched, IsUnasked, first_step, second_step, Gains, GainsNothing, GainsPart}
 use Rattle.ax_endpoints.specs.Files.{File}
@@ -12,18 +14,18 @@ use Rattle.ax_blocks.specs.Ending.{longest_input}
 use Rattle.ax_blocks.specs.Streams.{IsIdle}
 use Rattle.ax_words.specs.Words.{HasShape, HasNoShape}
 use Rattle.ax_words.specs.declared.line.Line.{Line}
-use Rattle.ax_words.specs.declared.line.Line.TheVariants as LineOf
 use Rattle.ax_app.specs.Counting.{LoadsAll, LoadsThrough}
 use Rattle.ax_app.specs.Given.{Given, LineGives, LineEnds}
-use Rattle.ax_app.specs.Jobs.{CommandJob, IsJob, IsStopped, JobRuns}
+use Rattle.ax_app.specs.Rows.{row_of, IsTask, IsStopped}
+use Rattle.ax_app.specs.Tasks.{Task, TaskRuns}
 
--- the words ask for this, its files give this, and over it it is this job
-pub record Does (words : List (List ℕ)) (files : Option (List File)) (job : CommandJob) : Type 0 where
+-- the words ask for this, its files give this, and over it it is this task
+pub record Does (words : List (List ℕ)) (files : Option (List File)) (task : Task) : Type 0 where
   pub what : Line
   pub shape : HasShape words what
   pub given : Given
   pub give : LineGives what files given
-  pub is : IsJob what given job
+  pub is : IsTask what given task
 
 -- the words ask for this, and loading its files stops so
 pub record StopsAtFiles (words : List (List ℕ)) (files : Option (List File)) (c : LibraryCounts) (stop : LoadStop) : Type 0 where
@@ -39,13 +41,13 @@ pub record StopsBeforeInput (words : List (List ℕ)) (files : Option (List File
   pub give : LineGives what files given
   pub stopped : IsStopped what given stop
 
--- first the words, for which memory may be wanting, then the files, then what else the words say over them, then the job
+-- first the words, for which memory may be wanting, then the files, then what else the words say over them, then the task
 pub data Runs (words : List (List ℕ)) (files : Option (List File)) (c : LibraryCounts) (i : SourceChange) (o r : SinkChange) (outcome : Outcome) : Type 0 where
   at_words : HasNoShape words → outcome ≡ Usage → IsUnasked c → IsIdle i o r → Runs words files c i o r outcome
   no_words : outcome ≡ OutOfMemory → IsUnasked c → IsIdle i o r → Runs words files c i o r outcome
   at_files : (stop : LoadStop) (h : StopsAtFiles words files c stop) → LoadsThrough h.what files c stop → outcome ≡ outcome_of_stop stop → IsIdle i o r → Runs words files c i o r outcome
   before_input : (stop : JobStop) (h : StopsBeforeInput words files stop) → LoadsAll h.what files c → outcome ≡ outcome_of_job_stop stop → IsIdle i o r → Runs words files c i o r outcome
-  in_job : (job : CommandJob) (d : Does words files job) → LoadsAll d.what files c → JobRuns job i o r outcome → Runs words files c i o r outcome
+  in_task : (task : Task) (d : Does words files task) → LoadsAll d.what files c → TaskRuns task i o r outcome → Runs words files c i o r outcome
 
 -- ---- the report, to which the lines of the outcome come last
 
@@ -87,29 +89,21 @@ pub record NoCountFell (c : LibraryCounts) (i : SourceChange) (o r : SinkChange)
 
 -- ---- want of memory
 
--- the commands that take memory once they read
+-- a command that takes memory once it reads
 abbrev pub TakesMemory : Line → Type 0
-TakesMemory (LineOf.Show files) = Unit {0}
-TakesMemory (LineOf.Text files) = Unit {0}
-TakesMemory (LineOf.Build files) = Unit {0}
-TakesMemory (LineOf.Check file) = ⊥
-TakesMemory (LineOf.Canon files) = ⊥
-TakesMemory (LineOf.Filter expression files) = ⊥
-TakesMemory (LineOf.Migrate old new) = ⊥
-TakesMemory (LineOf.Trial file seed count) = ⊥
-TakesMemory (LineOf.Salvage files) = ⊥
-TakesMemory (LineOf.Expand spec expansion) = Unit {0}
-TakesMemory (LineOf.Convert old new) = Unit {0}
-TakesMemory LineOf.Help = ⊥
-TakesMemory LineOf.Version = ⊥
+TakesMemory line = IsTrue (row_of line).may.takes_memory
 
 -- where memory was wanting, no octet was taken from the source and none added to the output
 abbrev pub WasIdle : Changes → Outcome → Type 0
 WasIdle x outcome = outcome ≡ OutOfMemory → IsUntouched x.source × GainsNothing x.out
 
--- so it is, but of a command that takes memory once it reads
+-- so it is, or memory is taken once the command reads
+abbrev pub WasIdleOr : Bool → Changes → Outcome → Type 0
+WasIdleOr takes_memory x outcome = outcome ≡ OutOfMemory → IsTrue takes_memory ⊎ (IsUntouched x.source × GainsNothing x.out)
+
+-- so it is of a line
 abbrev pub WantsFirst : Line → Changes → Outcome → Type 0
-WantsFirst line x outcome = outcome ≡ OutOfMemory → TakesMemory line ⊎ (IsUntouched x.source × GainsNothing x.out)
+WantsFirst line x outcome = WasIdleOr (row_of line).may.takes_memory x outcome
 
 -- the words ask for such a command
 pub record AsksForMemory (words : List (List ℕ)) : Type 0 where
@@ -119,49 +113,29 @@ pub record AsksForMemory (words : List (List ℕ)) : Type 0 where
 
 -- ---- outcomes that don't come of every command
 
--- the commands that report lines of blocks
+-- a command that reports lines of blocks, or of their counts
 abbrev pub ReportsBlocks : Line → Type 0
-ReportsBlocks (LineOf.Migrate old new) = Unit {0}
-ReportsBlocks (LineOf.Salvage files) = Unit {0}
-ReportsBlocks (LineOf.Expand spec expansion) = Unit {0}
-ReportsBlocks (LineOf.Convert old new) = Unit {0}
-ReportsBlocks _ = ⊥
+ReportsBlocks line = IsTrue (row_of line).may.reports_blocks
 
--- those that refuse a block for the length of a record in the new edition
+-- one that refuses a block for the length of a record in the new edition
 abbrev pub RefusesLengths : Line → Type 0
-RefusesLengths (LineOf.Migrate old new) = Unit {0}
-RefusesLengths (LineOf.Convert old new) = Unit {0}
-RefusesLengths _ = ⊥
+RefusesLengths line = IsTrue (row_of line).may.refuses_lengths
 
--- those that compare the categories of two files
-abbrev pub ComparesCategories : Line → Type 0
-ComparesCategories (LineOf.Migrate old new) = Unit {0}
-ComparesCategories (LineOf.Expand spec expansion) = Unit {0}
-ComparesCategories (LineOf.Convert old new) = Unit {0}
-ComparesCategories _ = ⊥
-
--- those that read an expansion file
-abbrev pub ReadsExpansion : Line → Type 0
-ReadsExpansion (LineOf.Expand spec expansion) = Unit {0}
-ReadsExpansion _ = ⊥
-
--- those that read an expression
-abbrev pub ReadsExpression : Line → Type 0
-ReadsExpression (LineOf.Filter expression files) = Unit {0}
-ReadsExpression _ = ⊥
-
--- those that read lines
+-- one that reads lines
 abbrev pub ReadsLines : Line → Type 0
-ReadsLines (LineOf.Build files) = Unit {0}
-ReadsLines _ = ⊥
+ReadsLines line = IsTrue (row_of line).may.reads_lines
+
+-- one that may be refused so before its input
+abbrev pub MayRefuse : Line → Refusal → Type 0
+MayRefuse line refusal = IsTrue ((row_of line).may.refuses refusal)
 
 -- the outcome may come of the line
 abbrev pub MayCome : Outcome → Line → Type 0
 MayCome ReportFault what = ReportsBlocks what
 MayCome (MigratedTooLong block octets) what = RefusesLengths what
-MayCome (OtherCategory old new) what = ComparesCategories what
-MayCome (ExpansionUnused category) what = ReadsExpansion what
-MayCome (FilterRefused fault) what = ReadsExpression what
+MayCome (OtherCategory old new) what = MayRefuse what (RefusalOf.OtherCategory old new)
+MayCome (ExpansionUnused category) what = MayRefuse what (RefusalOf.ExpansionUnused category)
+MayCome (FilterRefused fault) what = MayRefuse what (RefusalOf.FilterRefused fault)
 MayCome (TextRefused line fault) what = ReadsLines what
 MayCome _ what = Unit {0}
 

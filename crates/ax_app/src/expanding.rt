@@ -35,7 +35,7 @@ fn expand_blocks<S: Source, K: Sink, R: Sink>(
 
 /// `expand`: the lines of the contents of RE in each block; or the refusal of two categories, or of an expansion for which the
 /// UAP has no item RE of kind explicit.
-#[tactic(auto, using(crate::proofs::Expansions::expand_jobs, crate::proofs::Commands::commands))]
+#[tactic(auto, using(crate::proofs::Expansions::expand_tasks, crate::proofs::Commands::commands))]
 pub(crate) fn expand<S: Source, K: Sink, R: Sink>(
     alloc: Global,
     accepted: &Accepted,

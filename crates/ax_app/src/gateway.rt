@@ -3,12 +3,11 @@ ghost use Rattle.std.specs.Prelude.{◌≡◌};
 ghost use Rattle.ax_words.specs.Words.{IsInBounds};
 ghost use Rattle.ax_app.specs.Channels.{changes};
 ghost use Rattle.ax_app.specs.Gateway.{IsRunOf, Obeys, ObeysLine, ObeysLoaded, outside, texts};
-ghost use Rattle.ax_app.specs.Jobs.{IsReady};
-ghost use Rattle.ax_app.specs.Loaded.{given_of, IsLoadedFor};
+ghost use Rattle.ax_app.specs.Loaded.{given_of, AreInRange, IsLoadedFor};
 
 use crate::channels::Channels;
-use crate::jobs::do_job;
 use crate::loading::{Loaded, load};
+use crate::tasks::{do_task, files};
 use ax_command::{Outcome, write_lines};
 use ax_endpoints::{Library, Sink, Source};
 use ax_words::{Line, WordsError, read_words};
@@ -21,17 +20,18 @@ fn obey_loaded<S: Source, K: Sink, R: Sink>(
     loaded: &Loaded,
     io: Channels<'_, S, K, R>,
 ) -> Outcome
-    requires ready { IsReady line.now (given_of loaded.now).specs }
+    requires bounds { IsInBounds line.now }
+    requires in_range { AreInRange (given_of loaded.now).specs }
     requires loaded { IsLoadedFor line.now loaded.now }
     ensures { ObeysLoaded line.now (given_of loaded.now) (changes S.Source K.Sink R.Sink io.entry io.exit) result }
 {
-    match do_job(alloc, line, loaded, io) {
+    match do_task(alloc, line, loaded, io) {
         Ok(outcome) => outcome,
         Err(stop) => Outcome::from(stop),
     }
 }
 
-/// Does what a line says: first its files, then its job.
+/// Does what a line says: first its files, then its task.
 fn obey_line<L: Library, S: Source, K: Sink, R: Sink>(
     alloc: Global,
     line: &Line,
@@ -42,13 +42,13 @@ fn obey_line<L: Library, S: Source, K: Sink, R: Sink>(
     ensures obeys { ObeysLine line.now (outside L.Library library.old library.new (changes S.Source K.Sink R.Sink io.entry io.exit)) result }
     ensures keeps { L.files library.new ≡ L.files library.old }
 {
-    match load(alloc, library, line) {
+    match load(alloc, library, files(line)) {
         Ok(loaded) => obey_loaded(alloc, line, &loaded, io),
         Err(stop) => Outcome::from(stop),
     }
 }
 
-/// Does what the words say: first the words, then the files, then the job.
+/// Does what the words say: first the words, then the files, then the task.
 fn obey<L: Library, S: Source, K: Sink, R: Sink>(
     alloc: Global,
     words: &Vec<String>,

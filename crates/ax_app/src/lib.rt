@@ -3,16 +3,16 @@
 #![tactic(auto)]
 
 mod channels;
-mod converting;
 mod driving;
 mod each_block;
+mod editions;
 mod end;
 mod expanding;
 mod gateway;
 mod job;
-mod jobs;
 mod loading;
 mod outcomes;
+mod tasks;
 mod work;
 
 pub use ax_command::{Cause, FilterFault, InputFault, Outcome, SpecFault, TextFault};

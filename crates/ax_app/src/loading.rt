@@ -1,20 +1,34 @@
 //! The files of a command.
-ghost use Rattle.std.specs.Prelude.{◌≡◌, ◌≤◌, ◌<◌, IsTrue, length, IfOk, IfErr};
-ghost use Rattle.ax_app.specs.Counting.{LoadsAll, LoadsThrough};
-ghost use Rattle.ax_app.specs.Given.{files_of, takes_distinct, LineGives, LineEnds};
-ghost use Rattle.ax_app.specs.Loaded.{given_of, IsLoadedFor};
+ghost use Rattle.std.specs.Prelude.{◌≡◌, ◌≤◌, IfOk, IfErr};
+ghost use Rattle.ax_app.specs.Counting.{LoadsEach, LoadsUpTo};
+ghost use Rattle.ax_app.specs.Loaded.{named, given_of, AreFew, AreLoadedAs};
+ghost use Rattle.ax_app.specs.NamedFiles.{all_names, NamedGive, NamedEnd};
 ghost use Rattle.ax_endpoints.specs.Changes.{library_counts};
 
 use ax_check::{Accepted, Catalogue};
 use ax_endpoints::Library;
 use ax_expand::AcceptedExpansion;
-use ax_load::{LoadStop, load_catalogue, load_two, load_with_expansion};
-use ax_words::{Line, WordText};
+use ax_load::{LoadStop, load_catalogue, load_file, load_two, load_with_expansion};
+use ax_words::WordText;
 use std::alloc::Global;
-use std::slice;
+
+/// The files of a command, by their names.
+#[derive(Clone, Copy)]
+pub(crate) enum NamedFiles<'f> {
+    NoFile,
+    OneFile(&'f WordText),
+    /// Of distinct categories.
+    Catalogue(&'f [WordText]),
+    /// The old edition and the new one.
+    Editions(&'f WordText, &'f WordText),
+    /// A category file, and an expansion by which its RE is read.
+    WithExpansion(&'f WordText, &'f WordText),
+}
 
 /// What the files of a command are loaded into.
-pub enum Loaded {
+pub(crate) enum Loaded {
+    Nothing,
+    One(Accepted),
     /// Specifications of distinct categories.
     Catalogue(Catalogue),
     /// The old edition and the new one.
@@ -27,6 +41,8 @@ pub enum Loaded {
 impl Drop for Loaded {
     fn drop(self) {
         match self {
+            Loaded::Nothing => {}
+            Loaded::One(_spec) => {}
             Loaded::Catalogue(_catalogue) => {}
             Loaded::Editions(_old, _new) => {}
             Loaded::WithExpansion(_spec, _expansion) => {}
@@ -34,60 +50,45 @@ impl Drop for Loaded {
     }
 }
 
-/// The names of the files of a command that takes a catalogue.
-fn names_of(line: &Line) -> &[WordText]
-    requires { IsTrue (takes_distinct line.now) }
-    ensures names { result.now ≡ files_of line.now }
-    ensures few { length result.now < 4294967296 }
-{
-    match line {
-        Line::Check { file } => slice::from_ref(file),
-        Line::Canon { files } => files.as_slice(),
-        Line::Show { files } => files.as_slice(),
-        Line::Text { files } => files.as_slice(),
-        Line::Build { files } => files.as_slice(),
-        Line::Filter { files, .. } => files.as_slice(),
-        Line::Trial { file, .. } => slice::from_ref(file),
-        Line::Salvage { files } => files.as_slice(),
-        Line::Help => &[],
-        Line::Version => &[],
-        Line::Migrate { .. } => unreachable!(),
-        Line::Expand { .. } => unreachable!(),
-        Line::Convert { .. } => unreachable!(),
-    }
-}
-
-/// What the files of a command give, or how the run ends at the first file that gives none. Each file is loaded
-/// once, in order, and none after the first one that ends the run.
+/// What files of these names give, or how the run ends at the first file that gives none. Each file is loaded once, in order, and
+/// none after the first one that ends the run.
 #[tactic(auto, using(crate::proofs::Loads::loads))]
-pub fn load<L: Library>(alloc: Global, library: &mut L, line: &Line) -> Result<Loaded, LoadStop>
-    ensures gives { IfOk result (λ loaded. LineGives line.now (L.files library.old) (given_of loaded)) }
-    ensures loaded { IfOk result (IsLoadedFor line.now) }
-    ensures ends { IfErr result (LineEnds line.now (L.files library.old) (library_counts L.Library library.old library.new)) }
-    ensures loads_all { IfOk result (λ _. LoadsAll line.now (L.files library.old) (library_counts L.Library library.old library.new)) }
-    ensures loads_through { IfErr result (λ stop. LoadsThrough line.now (L.files library.old) (library_counts L.Library library.old library.new) stop) }
+pub(crate) fn load<L: Library>(
+    alloc: Global,
+    library: &mut L,
+    files: NamedFiles<'_>,
+) -> Result<Loaded, LoadStop>
+    requires few { AreFew (named files) }
+    ensures gives { IfOk result (λ loaded. NamedGive (named files.entry) (L.files library.old) (given_of loaded)) }
+    ensures loaded { IfOk result (AreLoadedAs (named files.entry)) }
+    ensures ends { IfErr result (NamedEnd (named files.entry) (L.files library.old) (library_counts L.Library library.old library.new)) }
+    ensures loads_all { IfOk result (λ _. LoadsEach (all_names (named files.entry)) (L.files library.old) (library_counts L.Library library.old library.new)) }
+    ensures loads_through { IfErr result (λ stop. LoadsUpTo (all_names (named files.entry)) (L.files library.old) (library_counts L.Library library.old library.new) stop) }
     ensures keeps { L.files library.new ≡ L.files library.old }
     ensures number_never_falls { L.taken library.old ≤ L.taken library.new }
     ensures never_falls { L.faults library.old ≤ L.faults library.new }
 {
-    match line {
-        Line::Migrate { old, new } => match load_two(alloc, library, old.text(), new.text()) {
-            Ok((old, new)) => Ok(Loaded::Editions(old, new)),
+    match files {
+        NamedFiles::NoFile => Ok(Loaded::Nothing),
+        NamedFiles::OneFile(file) => match load_file(alloc, library, file.text(), 0) {
+            Ok(spec) => Ok(Loaded::One(spec)),
             Err(stop) => Err(stop),
         },
-        Line::Convert { old, new } => match load_two(alloc, library, old.text(), new.text()) {
-            Ok((old, new)) => Ok(Loaded::Editions(old, new)),
+        NamedFiles::Catalogue(files) => match load_catalogue(alloc, library, files) {
+            Ok(catalogue) => Ok(Loaded::Catalogue(catalogue)),
             Err(stop) => Err(stop),
         },
-        Line::Expand { spec, expansion } => {
+        NamedFiles::Editions(old, new) => {
+            match load_two(alloc, library, old.text(), new.text()) {
+                Ok((old, new)) => Ok(Loaded::Editions(old, new)),
+                Err(stop) => Err(stop),
+            }
+        }
+        NamedFiles::WithExpansion(spec, expansion) => {
             match load_with_expansion(alloc, library, spec.text(), expansion.text()) {
                 Ok((spec, expansion)) => Ok(Loaded::WithExpansion(spec, expansion)),
                 Err(stop) => Err(stop),
             }
         }
-        _ => match load_catalogue(alloc, library, names_of(line)) {
-            Ok(catalogue) => Ok(Loaded::Catalogue(catalogue)),
-            Err(stop) => Err(stop),
-        },
     }
 }

@@ -1,4 +1,4 @@
-//! The outcomes for ends of jobs.
+//! The outcomes for ends of tasks.
 ghost use Rattle.std.specs.Prelude.{◌≡◌};
 ghost use Rattle.ax_command.specs.Outcomes.{outcome_of_end};
 ghost use Rattle.ax_app.specs.Ends.{as_stream};

@@ -4,6 +4,7 @@
 #include "say.h"
 
 #include <pcap/pcap.h>
+#include <stdio.h>
 #include <stdlib.h>
 
 struct filter {
@@ -18,10 +19,14 @@ struct filter *filter_new(const char *expression)
     pcap_t *raw = pcap_open_dead(DLT_RAW, PACKET_MOST);
     if (!it || !raw)
         give_up(FAILED, "there is no memory left");
-    if (pcap_compile(raw, &it->program, expression, 1, PCAP_NETMASK_UNKNOWN) != 0)
-        give_up(FILTER_REFUSED, "the filter is refused: %s (it is asked of IP datagrams)", pcap_geterr(raw));
+    bool is_one = pcap_compile(raw, &it->program, expression, 1, PCAP_NETMASK_UNKNOWN) == 0;
+    char fault[PCAP_ERRBUF_SIZE];
+    snprintf(fault, sizeof fault, "%s", pcap_geterr(raw));
     pcap_close(raw);
-    return it;
+    if (is_one)
+        return it;
+    free(it);
+    give_up(FILTER_REFUSED, "the filter is refused: %s (it is asked of IP datagrams)", fault);
 }
 
 void filter_free(struct filter *it)

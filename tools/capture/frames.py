@@ -134,7 +134,7 @@ def ethernet(packet: bytes, tags: Sequence[tuple[int, int]] = ()) -> bytes:
 def framed(link: int, packet: bytes) -> bytes:
     """A frame of a link type."""
     kind = struct.pack(">H", ether_type(packet))
-    family = 2 if packet[0] >> 4 == 4 else 10
+    family = 2 if packet[0] >> 4 == 4 else 24
     heads = {
         ETHERNET: b"",
         RAW: b"",

@@ -11,7 +11,6 @@
 
 #include <errno.h>
 #include <getopt.h>
-#include <math.h>
 #include <stdio.h>
 #include <stdlib.h>
 #include <string.h>
@@ -33,6 +32,7 @@ static const char help[] =
     "Status: 0 all is sent, 1 wrong words, 2 the filter is refused, 3 something was left out or refused, 4 something failed.\n";
 
 enum { NANO = 1000000000 };
+static const double slowest = 1e-3, fastest = 1e9;
 
 struct words {
     char *captures[2];
@@ -53,8 +53,8 @@ static double speed_of(const char *text)
 {
     char *end;
     double speed = strtod(text, &end);
-    if (end == text || *end || !isfinite(speed) || speed <= 0)
-        refuse_words("--speed: %s isn't a number above 0", text);
+    if (end == text || *end || !(speed >= slowest && speed <= fastest))
+        refuse_words("--speed: %s isn't a number above 0, from %g to %g", text, slowest, fastest);
     return speed;
 }
 
@@ -132,10 +132,10 @@ static void note_time(const struct datagram *datagram)
 /* When the latest time of the capture is due, of the monotonic clock. */
 static struct timespec due(double speed)
 {
-    double since = (double)stamp_between(it.first, it.latest) / speed;
+    long long since = (long long)((double)stamp_between(it.first, it.latest) / speed);
     struct timespec time = it.begun;
-    time.tv_sec += (time_t)(since / NANO);
-    time.tv_nsec += (long)fmod(since, NANO);
+    time.tv_sec += since / NANO;
+    time.tv_nsec += since % NANO;
     if (time.tv_nsec >= NANO) {
         time.tv_nsec -= NANO;
         time.tv_sec++;

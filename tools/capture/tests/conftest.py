@@ -4,7 +4,7 @@ import os
 import pathlib
 import subprocess
 import sys
-from collections.abc import Callable
+from collections.abc import Callable, Iterator
 
 import pytest
 
@@ -30,3 +30,23 @@ def made(tmp_path: pathlib.Path) -> Callable[[bytes, str], pathlib.Path]:
         return path
 
     return write
+
+
+@pytest.fixture
+def space() -> Iterator["Namespace"]:
+    """A network namespace of the trial's own."""
+    from network import Namespace
+
+    it = Namespace()
+    yield it
+    it.end()
+
+
+@pytest.fixture
+def other_space() -> Iterator["Namespace"]:
+    """Another one."""
+    from network import Namespace
+
+    it = Namespace()
+    yield it
+    it.end()

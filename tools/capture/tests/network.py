@@ -6,6 +6,7 @@ the administrator, or a namespace of users in which they have them (.ci/captures
 
 import contextlib
 import ctypes
+import ipaddress
 import os
 import pathlib
 import signal
@@ -116,13 +117,15 @@ def until(holds) -> None:
 
 
 def receives(process: subprocess.Popen[bytes], at: str) -> bool:
-    """Whether a process has a socket at the address. A group has been joined a moment after it was bound, so it waits in poll then."""
+    """Whether a socket has the address, in the namespace of a process, and is in its group; or the process has ended."""
     if process.poll() is not None:
         return True
-    port = f":{int(at.rpartition(':')[2]):04X} "
-    tables = [pathlib.Path(f"/proc/{process.pid}/net/{name}") for name in ("udp", "udp6")]
-    in_poll = pathlib.Path(f"/proc/{process.pid}/stat").read_text().rpartition(")")[2].split()[0] == "S"
-    return in_poll and any(port in it.read_text() for it in tables if it.exists())
+    host, _, port = at.rpartition(":")
+    address = ipaddress.ip_address(host.strip("[]"))
+    tables = {name: (pathlib.Path(f"/proc/{process.pid}/net") / name).read_text().lower() for name in ("udp", "udp6", "igmp", "igmp6")}
+    is_bound = f":{int(port):04x} " in tables["udp"] + tables["udp6"]
+    group = address.packed[::-1].hex() if address.version == 4 else address.packed.hex()
+    return is_bound and (not address.is_multicast or group in tables["igmp"] + tables["igmp6"])
 
 
 def stopped(process: subprocess.Popen[bytes], number: int = signal.SIGTERM) -> tuple[int, bytes, list[str]]:

@@ -32,7 +32,7 @@ static const char help[] =
     "Status: 0 all is sent, 1 wrong words, 2 the filter is refused, 3 something was left out or refused, 4 something failed.\n";
 
 enum { NANO = 1000000000 };
-static const double slowest = 1e-3, fastest = 1e9;
+static const double slowest = 1e-3, fastest = 1e9, longest_wait = 1e18;
 
 struct words {
     char *captures[2];
@@ -132,7 +132,8 @@ static void note_time(const struct datagram *datagram)
 /* When the latest time of the capture is due, of the monotonic clock. */
 static struct timespec due(double speed)
 {
-    long long since = (long long)((double)stamp_between(it.first, it.latest) / speed);
+    double wanted = (double)stamp_between(it.first, it.latest) / speed;
+    long long since = (long long)(wanted < longest_wait ? wanted : longest_wait);
     struct timespec time = it.begun;
     time.tv_sec += since / NANO;
     time.tv_nsec += since % NANO;

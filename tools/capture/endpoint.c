@@ -68,6 +68,11 @@ bool same_address(const struct endpoint *one, const struct endpoint *other)
     return one->family == other->family && memcmp(one->address, other->address, address_octets(one->family)) == 0;
 }
 
+bool same_endpoint(const struct endpoint *one, const struct endpoint *other)
+{
+    return same_address(one, other) && one->port == other->port && one->scope == other->scope;
+}
+
 bool is_group(const struct endpoint *it)
 {
     return it->family == AF_INET ? it->address[0] >> 4 == 0xe : it->address[0] == 0xff;

@@ -29,6 +29,7 @@ bool endpoint_read(const char *text, struct endpoint *it);
 bool address_read(const char *text, struct endpoint *it);
 
 bool same_address(const struct endpoint *one, const struct endpoint *other);
+bool same_endpoint(const struct endpoint *one, const struct endpoint *other);
 bool is_group(const struct endpoint *it);
 
 /* To and from the system's form. */

@@ -28,17 +28,33 @@ void times_begin(const char *path)
     times_flush();
 }
 
+/* The ends of a datagram as the table has them. Many datagrams have the same, so their text is kept. */
+static const char *ends_text(const struct endpoint *source, const struct endpoint *destination)
+{
+    static struct endpoint kept_source, kept_destination;
+    static char text[2 * ENDPOINT_TEXT + 4];
+    char from[ENDPOINT_TEXT], to[ENDPOINT_TEXT];
+    if (text[0] && same_endpoint(source, &kept_source) && same_endpoint(destination, &kept_destination))
+        return text;
+    kept_source = *source;
+    kept_destination = *destination;
+    snprintf(text, sizeof text, "\t%s\t%s\n", endpoint_text(source, from), endpoint_text(destination, to));
+    return text;
+}
+
 void times_add(size_t blocks, struct timespec time, const struct endpoint *source, const struct endpoint *destination)
 {
-    char stamp[STAMP_TEXT], from[ENDPOINT_TEXT], to[ENDPOINT_TEXT];
+    char stamp[STAMP_TEXT];
     if (!table)
         return;
     stamp_text(time, stamp);
-    endpoint_text(source, from);
-    endpoint_text(destination, to);
-    for (size_t at = 0; at < blocks; at++)
-        if (fprintf(table, "%" PRIu64 "\t%s\t%s\t%s\n", block++, stamp, from, to) < 0)
+    const char *ends = ends_text(source, destination);
+    for (size_t at = 0; at < blocks; at++) {
+        char number[24];
+        snprintf(number, sizeof number, "%" PRIu64 "\t", block++);
+        if (fputs(number, table) < 0 || fputs(stamp, table) < 0 || fputs(ends, table) < 0)
             failed();
+    }
 }
 
 void times_flush(void)

@@ -97,6 +97,13 @@ def test_times_of_pcapng(made, tmp_path, order, resolution, decimals):
     assert table.read_text().splitlines()[1] == f"0\t2026-11-26T09:00:00.{decimals}Z\t[2001:db8::1]:5000\t[ff0e::114]:8600"
 
 
+def test_time_that_no_calendar_has(made, tmp_path):
+    """Times in whole seconds, the greatest that a capture can have."""
+    table = tmp_path / "times"
+    written("--times", table, made(frames.pcapng([ethernet(ONE, (2**63 - 1) * frames.SECOND)], resolution=0)))
+    assert table.read_text().splitlines()[1].split("\t")[1] == f"@{2**63 - 1}.000000000Z"
+
+
 @pytest.mark.parametrize("order", "<>")
 def test_unlike_interfaces(made, order):
     """Each link type, each with a snapshot length of its own, in one file."""
@@ -170,6 +177,13 @@ def test_fragments_wait_for_half_a_minute(made):
     cut = frames.packets(block(48, 2000), mtu=1500)
     late = [Frame(TIME, frames.ethernet(cut[0])), Frame(TIME + 31 * frames.SECOND, frames.ethernet(cut[1]))]
     output, said = refused(2, made(frames.pcap(late)))
+    assert output == b"" and said.count("fragment without its others") == 2
+
+
+def test_fragments_whose_times_are_centuries_apart(made):
+    cut = [frames.ethernet(it) for it in frames.packets(block(48, 2000), mtu=1500)]
+    late = [Frame(0, cut[0]), Frame((2**63 - 1) * frames.SECOND, cut[1])]
+    output, said = refused(2, made(frames.pcapng(late, resolution=0)))
     assert output == b"" and said.count("fragment without its others") == 2
 
 

@@ -1,16 +1,27 @@
 #include "say.h"
 
+#include <fcntl.h>
 #include <stdarg.h>
 #include <stdio.h>
 #include <stdlib.h>
+#include <unistd.h>
 
 static const char *own_name = "";
 static enum status reached = ALL_DONE;
 static void (*clear_first)(void);
 
+/* Opens the standard streams that are closed, in the way in which they aren't used. The lowest free number is given first. */
+static void fill_streams(void)
+{
+    for (int stream = STDIN_FILENO; stream <= STDERR_FILENO; stream++)
+        if (fcntl(stream, F_GETFD) < 0 && open("/dev/null", stream == STDIN_FILENO ? O_WRONLY : O_RDONLY) < 0)
+            _exit(FAILED);
+}
+
 void say_as(const char *name)
 {
     own_name = name;
+    fill_streams();
 }
 
 void say_after(void (*clear)(void))

@@ -5,7 +5,7 @@
 /* As docs/ENDINGS.md has them. */
 enum status { ALL_DONE = 0, WRONG_WORDS = 1, FILTER_REFUSED = 2, LEFT_OUT = 3, FAILED = 4 };
 
-/* The name that begins each line. */
+/* Begins a run. The name begins each line. A standard stream that is closed fails when it is used: no file or socket takes its number. */
 void say_as(const char *name);
 /* Writes a line: the name, and what the format makes. */
 void say(const char *format, ...) __attribute__((format(printf, 1, 2)));

@@ -155,6 +155,7 @@ int sending_socket(const struct endpoint *to, const struct ways *ways)
     if (interface && other.family == AF_INET6 && !other.scope)
         other.scope = interface;
     int it = open_socket(&other);
+    set(it, SOL_SOCKET, SO_BROADCAST, &on, sizeof on, "sending to a whole network");
     if (is_group(&other))
         set_group_ways(it, &other, ways, interface);
     else

@@ -428,6 +428,15 @@ def test_outputs_that_fail(made, tmp_path):
     assert (done.returncode, done.stderr) == (4, b"asterix-pcap: the reader of standard output is gone\n")
 
 
+def test_closed_output(made, tmp_path):
+    """No block goes into the table of times."""
+    table = tmp_path / "times"
+    words = ["bash", "-c", 'exec "$@" >&-', "bash", BUILT / "asterix-pcap", "--times", table, made(frames.pcap([ethernet(ONE)]))]
+    done = subprocess.run(words, capture_output=True, timeout=HANGS)
+    assert (done.returncode, done.stderr) == (4, b"asterix-pcap: standard output can't be written: Bad file descriptor\n")
+    assert table.read_text().splitlines()[0] == "block\ttime\tsource\tdestination"
+
+
 def test_damaged_octets(made):
     """Captures with random damage end with a status that is known, and write whole blocks alone."""
     chance = random.Random(5)

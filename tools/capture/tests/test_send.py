@@ -3,10 +3,11 @@
 import os
 import signal
 import socket
+import subprocess
 
 import pytest
 from network import HANGS, IP_RECVTTL, Namespace, stopped
-from running import block
+from running import BUILT, block
 
 ONE, TWO, THREE = block(48, 40), block(62, 200, 7), block(34, 11, 90)
 TO = "127.0.0.1:8600"
@@ -164,6 +165,26 @@ def test_ttl(space):
         assert space.run("net", "send", f"{to}:8600", *words, *more, given=ONE) == (0, b"", [])
         assert hops(at) == wanted
         at.close()
+
+
+def test_broadcast(space):
+    space.interface("trial", "10.9.0.1/24")
+    at = space.socket("10.9.0.255", 8600)
+    assert space.run("net", "send", "10.9.0.255:8600", given=ONE) == (0, b"", [])
+    assert received(at, 1) == [ONE]
+
+
+@pytest.mark.parametrize("stream", ["<&-", "2>&-"])
+def test_closed_streams(space, stream):
+    """A stream that is closed isn't mistaken for the socket: no line goes over the network."""
+    at = space.socket("127.0.0.1", 8600)
+    words = space.words("bash", "-c", f'exec "$@" {stream}', "bash", BUILT / "asterix-net", "send", TO)
+    done = subprocess.run(words, input=ONE + b"\x30\0\0", capture_output=True, timeout=HANGS)
+    if stream == "<&-":
+        assert (done.returncode, done.stderr) == (4, b"asterix-net: standard input can't be read: Bad file descriptor\n")
+        assert received(at, 0) == []
+    else:
+        assert (done.returncode, received(at, 1)) == (3, [ONE])
 
 
 def group_member(space: Namespace, group: str, interface: str = "trial") -> socket.socket:

@@ -14,7 +14,8 @@ import socket
 import struct
 import subprocess
 import time
-from collections.abc import Iterator
+from collections.abc import Callable, Iterator
+from typing import IO
 
 from running import BUILT, HANGS
 
@@ -108,7 +109,7 @@ class Namespace:
             it.ip("link", "set", name, "up")
 
 
-def until(holds) -> None:
+def until(holds: Callable[[], bool]) -> None:
     """Waits for something that is about to be."""
     end = time.monotonic() + SOON
     while not holds():
@@ -135,7 +136,15 @@ def stopped(process: subprocess.Popen[bytes], number: int = signal.SIGTERM) -> t
     return process.returncode, output or b"", lines.decode().splitlines()
 
 
-def read(stream, count: int) -> bytes:
+def beside_limit(lines: list[str]) -> list[str]:
+    """A report without the line that says that --buffer is limited. It comes without the administrator's rights alone, and with the
+    system's limit."""
+    limit = pathlib.Path("/proc/sys/net/core/rmem_max").read_text().strip()
+    line = f"asterix-net: --buffer: the kernel gives {limit} octets and not {8 << 20}; sysctl net.core.rmem_max is the limit"
+    return [it for it in lines if it != line]
+
+
+def read(stream: IO[bytes], count: int) -> bytes:
     """So many octets of a pipe, as soon as they are there."""
     found = b""
     while len(found) < count:

@@ -24,7 +24,7 @@ static struct {
     int unread_link; /* the link type that was last said not to be read */
 } now;
 
-/* A row of places, each a capture, a frame and its time. Frames are numbered from 1, as Wireshark numbers them. */
+/* Says that something at a place is left out. Frames are numbered from 1, as Wireshark numbers them. */
 static void say_at(const struct place *place, const char *about, const char *reason)
 {
     char time[STAMP_TEXT];
@@ -79,10 +79,11 @@ static bool is_taken(const struct packet *packet)
     return filter_takes(now.filter, &octets);
 }
 
-/* What isn't UDP, by the protocol that the IP header names, isn't said; nor is what the filter doesn't take. */
+/* What isn't UDP isn't said; nor is what the filter doesn't take. */
 static void refuse(const struct place *place, const struct packet *packet, const char *reason)
 {
-    if (!packet->header || (packet->protocol == PROTOCOL_UDP && is_taken(packet)))
+    bool is_udp = packet->protocol == PROTOCOL_UDP;
+    if (!packet->header || (is_udp ? is_taken(packet) : may_be_udp(packet)))
         say_packet(place, packet, reason);
 }
 
@@ -98,12 +99,6 @@ static void refuse_fragments(const struct incomplete *it)
         refuse(&it->place, &packet, it->reason);
     else /* no filter knows its ports */
         say_packet(&it->place, &it->packet, it->reason);
-}
-
-/* Whether a fragment may be one of UDP. The protocol may follow in an extension header. */
-static bool may_be_udp(const struct packet *packet)
-{
-    return packet->protocol == PROTOCOL_UDP || (packet->source.family == AF_INET6 && packet->protocol != 6 && packet->protocol != 58);
 }
 
 /* The packet of a frame, whole: with its fragments, if it is the last of them. */

@@ -57,6 +57,16 @@ enum found read_ip4(struct slice from, bool checks_sum, struct packet *it, const
     return FOUND_BAD;
 }
 
+static bool is_extension(uint8_t protocol)
+{
+    return protocol == HOP_BY_HOP || protocol == ROUTING || protocol == FRAGMENT || protocol == AUTHENTICATION || protocol == DESTINATION;
+}
+
+bool may_be_udp(const struct packet *it)
+{
+    return it->protocol == PROTOCOL_UDP || (it->source.family == AF_INET6 && is_extension(it->protocol));
+}
+
 /* The octets of an extension header that begins here. */
 static size_t extension_octets(uint8_t protocol, const uint8_t *at)
 {
@@ -79,7 +89,7 @@ enum found skip_extensions(struct packet *it, const char **fault)
 {
     while (!it->is_fragment) {
         uint8_t protocol = it->protocol;
-        if (protocol != HOP_BY_HOP && protocol != ROUTING && protocol != FRAGMENT && protocol != AUTHENTICATION && protocol != DESTINATION)
+        if (!is_extension(protocol))
             return FOUND;
         if (it->body.length < 8) {
             *fault = "an extension header of IPv6 is longer than its packet";
@@ -91,7 +101,7 @@ enum found skip_extensions(struct packet *it, const char **fault)
             read_fragment(it);
             continue;
         }
-        it->protocol = it->body.octets[0];
+        uint8_t next = it->body.octets[0];
         size_t octets = extension_octets(protocol, it->body.octets);
         if (octets > it->body.length) {
             *fault = "an extension header of IPv6 is longer than its packet";
@@ -99,6 +109,7 @@ enum found skip_extensions(struct packet *it, const char **fault)
         }
         if (!slice_skip(&it->body, octets))
             return FOUND_CUT;
+        it->protocol = next;
     }
     return FOUND;
 }

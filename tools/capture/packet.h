@@ -26,6 +26,9 @@ enum found { FOUND, FOUND_OTHER, FOUND_CUT, FOUND_BAD };
 enum found read_ip4(struct slice from, bool checks_sum, struct packet *it, const char **fault);
 enum found read_ip6(struct slice from, struct packet *it, const char **fault);
 
+/* Whether the body is UDP, or an extension header of IPv6 behind which UDP may follow. */
+bool may_be_udp(const struct packet *it);
+
 /* Goes on past the extension headers of IPv6 that begin a body, up to a fragment or another protocol. */
 enum found skip_extensions(struct packet *it, const char **fault);
 

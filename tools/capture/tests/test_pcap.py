@@ -324,6 +324,24 @@ def test_wrong_checksum_of_a_header(made):
     assert written("-f", "dst port 8601", capture) == b""
 
 
+def test_wrong_extension_headers(made):
+    """One that is longer than its packet hides what follows, so it is told, whole or in fragments, whatever the filter asks."""
+    wrong = (60, bytes([200, 1, 4, 0, 0, 0, 0]))
+    whole = frames.ip6(frames.udp(TWO, SIX), SIX, before=[wrong])
+    cut = frames.ip6(frames.udp(block(48, 1400), SIX), SIX, inside=[wrong], mtu=1280)
+    for packets in (whole, cut):
+        capture = made(frames.pcap([*(Frame(TIME, frames.ethernet(it)) for it in packets), ethernet(ONE)]))
+        output, said = refused(1, "-f", "dst port 8600", capture)
+        assert output == ONE and "an extension header of IPv6 is longer than its packet" in said
+
+
+def test_other_protocols_of_ip6_are_passed_over(made):
+    """TCP, ICMP, OSPF, no next header; fragments of TCP, and one without its others."""
+    sent = [packet for protocol in (6, 58, 89, 59) for packet in frames.ip6(bytes(40), SIX, protocol=protocol)]
+    sent += frames.ip6(bytes(2000), SIX, protocol=6, mtu=1280)[:1]
+    assert written(made(frames.pcap([*(Frame(TIME, frames.ethernet(it)) for it in sent), ethernet(ONE)]))) == ONE
+
+
 def test_no_checksum(made):
     """IPv4 allows a datagram without a checksum, IPv6 doesn't."""
     assert written(made(frames.pcap([Frame(TIME, frames.ethernet(*frames.ip4(frames.udp(ONE, checksum=0))))]))) == ONE

@@ -28,8 +28,8 @@ LINES = {"README.md": 160}
 WORDS = {"docs/ARCHITECTURE.md": 1500, "docs/PROVED.md": 2000}
 RECORDS = {"docs/DECISIONS.md": 80}
 # Files of which each word is a name of code, and what a path to a file ends in.
-CODE = re.compile(r"\.(rt|antt|py|awk|bash|fish)$|^crates\.txt$|^asterix$|^(tools|\.ci)/[^.]*$")
-SOURCE = re.compile(r"\.(rt|antt|py|md|edit|awk|svg|dot)$")
+CODE = re.compile(r"\.(rt|antt|py|awk|bash|fish|c|h)$|^crates\.txt$|^asterix$|^(tools|\.ci)/[^.]*$")
+SOURCE = re.compile(r"\.(rt|antt|py|md|edit|awk|svg|dot|c|h|service)$")
 SPAN = re.compile(r"(`+)(.+?)\1", re.S)
 LINK = re.compile(r"\]\(([^)\s]+)\)")
 ITEM = re.compile(r"\s*([-*+]|\d+\.) ")

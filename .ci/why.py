@@ -252,7 +252,7 @@ CASES = [
             "block 1 counted from 1: category 212, after 0 octets of the input",
             "its octet 13, bit-8: .. 02 00 04 00 00 00 00 00 []",
             "the input has fewer octets than LEN says",
-            "the input looks like a pcap capture: its datagrams have to be taken out first, by tshark",
+            "the input looks like a pcap capture: `asterix-pcap FILE | asterix ..` takes the blocks out first",
         ],
     ),
     (

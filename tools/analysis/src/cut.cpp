@@ -1,15 +1,10 @@
 // asterix-cut: pieces of a recording, each of whole data blocks.
-#include <fcntl.h>
-#include <sys/stat.h>
-
-#include <climits>
-#include <csignal>
 #include <cstdio>
-#include <cstdlib>
 #include <string>
 #include <vector>
 
 #include "recording.hpp"
+#include "unfinished.hpp"
 #include "wide.hpp"
 #include "words.hpp"
 
@@ -106,59 +101,24 @@ std::vector<std::string> names_of(const Asked &asked, std::size_t count) {
     return names;
 }
 
-// The file that is being written, which goes if the run is ended by a signal.
-char unfinished[PATH_MAX];
-
-void on_signal(int number) {
-    ::unlink(unfinished);
-    std::signal(number, SIG_DFL);
-    std::raise(number);
-}
-
-bool copied(const Recording &recording, const Piece &piece, int file, std::vector<char> &buffer) {
+// Writes a piece, which gets its name when it is whole.
+void write_piece(const Recording &recording, const Piece &piece, const std::string &name, bool forces, std::vector<char> &buffer) {
+    Unfinished file(name, forces);
     std::uint64_t done = 0;
     while (done < piece.length) {
         const std::size_t wanted = static_cast<std::size_t>(std::min<std::uint64_t>(buffer.size(), piece.length - done));
         const std::size_t got = recording.read(buffer.data(), wanted, piece.offset + done);
         if (got < wanted) throw Failure{outside_failed, "the recording has become shorter"};
-        if (!write_fully(file, buffer.data(), got)) return false;
+        if (!write_fully(file.file(), buffer.data(), got)) throw system_failure(name);
         done += got;
     }
-    return true;
+    file.finish();
 }
 
-// Writes a piece under a name of its own beside the wanted one, which it gets when it is whole.
-void write_piece(const Recording &recording, const Piece &piece, const std::string &name, bool forces, std::vector<char> &buffer) {
-    const std::string partial = "." + name + "." + std::to_string(::getpid());
-    if (partial.size() >= sizeof unfinished) throw Failure{outside_failed, name + ": the name is too long"};
-    const int file = ::open(partial.c_str(), O_WRONLY | O_CREAT | O_EXCL | O_CLOEXEC, 0666);
-    if (file < 0) throw system_failure(name);
-    partial.copy(unfinished, partial.size());
-    unfinished[partial.size()] = 0;
-    bool is_whole = false;
-    int error = 0;
-    try {
-        is_whole = copied(recording, piece, file, buffer);
-        error = errno;
-    } catch (...) {
-        ::unlink(unfinished);
-        throw;
-    }
-    if (::close(file) != 0 && is_whole) is_whole = false, error = errno;
-    if (is_whole && ::renameat2(AT_FDCWD, unfinished, AT_FDCWD, name.c_str(), forces ? 0 : RENAME_NOREPLACE) != 0)
-        is_whole = false, error = errno;
-    ::unlink(unfinished);
-    unfinished[0] = 0;
-    if (!is_whole) throw system_failure(name, error);
-}
-
+// All names are looked at before the first piece is written.
 void write_pieces(const Recording &recording, const Asked &asked, const Plan &plan) {
     const std::vector<std::string> names = names_of(asked, plan.pieces.size());
-    struct stat about;
-    for (const std::string &name : names)
-        if (!asked.forces && ::lstat(name.c_str(), &about) == 0)
-            throw Failure{outside_failed, name + " is there already, and nothing was written; --force replaces it"};
-    for (const int number : {SIGINT, SIGTERM, SIGHUP}) std::signal(number, on_signal);
+    for (const std::string &name : names) keep_what_is_there(name, asked.forces);
     std::vector<char> buffer(std::size_t{1} << 20);
     for (std::size_t i = 0; i < names.size(); ++i) {
         write_piece(recording, plan.pieces[i], names[i], asked.forces, buffer);

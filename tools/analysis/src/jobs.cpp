@@ -42,8 +42,8 @@ private:
     std::uint64_t index_;
 };
 
-// Passes on what the program says, with the numbers of blocks of the whole recording.
-void pass_on(std::string said, std::uint64_t first_block) {
+// What the program says, with the number of the block in the whole recording.
+std::string renumbered(std::string said, std::uint64_t first_block) {
     constexpr std::string_view front = "refused block ";
     std::size_t at = said.compare(0, front.size(), front) == 0 ? 0 : said.find("\nrefused block ");
     if (at != std::string::npos && first_block > 0) {
@@ -52,7 +52,7 @@ void pass_on(std::string said, std::uint64_t first_block) {
         const auto read = std::from_chars(said.data() + at, said.data() + said.size(), block);
         said.replace(at, static_cast<std::size_t>(read.ptr - said.data()) - at, std::to_string(block + first_block));
     }
-    write_fully(STDERR_FILENO, said.data(), said.size());
+    return said;
 }
 
 // One run over a file; `wait` is called before the last of its lines are written.
@@ -66,7 +66,7 @@ int convert_file(const std::string &program, const Files &files, JsonForm form, 
     listing.finish(status == all_well || status == refused);
     wait();
     write_out(sink.rest());
-    pass_on(run.said(), first_block);
+    pass_on(renumbered(run.said(), first_block));
     return status;
 }
 

@@ -1,5 +1,4 @@
 // asterix-json: a recording as lines of JSON.
-#include <fcntl.h>
 #include <sys/stat.h>
 #include <unistd.h>
 
@@ -43,18 +42,6 @@ Asked asked_by(Words &words) {
     }
     if (asked.files.empty()) throw Failure{wrong_words, "which category files?"};
     return asked;
-}
-
-// The program judges the files, with an empty input. If it refuses them, what it says is passed on.
-int judge(const std::string &program, const Files &files) {
-    const int nothing = ::open("/dev/null", O_RDONLY | O_CLOEXEC);
-    Run run(program, "show", files.names(), nothing);
-    ::close(nothing);
-    const int status = run.wait();
-    const std::string said = run.said();
-    std::fwrite(said.data(), 1, said.size(), stderr);
-    if (status == all_well && !files.is_readable()) throw Failure{outside_failed, "a category file can't be read"};
-    return status;
 }
 
 bool is_file(int file) {

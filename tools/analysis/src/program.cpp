@@ -173,4 +173,16 @@ std::string Run::said() const {
     }
 }
 
+void pass_on(const std::string &said) { write_fully(STDERR_FILENO, said.data(), said.size()); }
+
+int judge(const std::string &program, const Files &files) {
+    const int nothing = ::open("/dev/null", O_RDONLY | O_CLOEXEC);
+    Run run(program, "show", files.names(), nothing);
+    ::close(nothing);
+    const int status = run.wait();
+    pass_on(run.said());
+    if (status == all_well && !files.is_readable()) throw Failure{outside_failed, "a category file can't be read"};
+    return status;
+}
+
 }  // namespace analysis

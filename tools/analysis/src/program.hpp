@@ -60,4 +60,10 @@ private:
     int said_ = -1;
 };
 
+// Writes what the program said on standard error.
+void pass_on(const std::string &said);
+
+// The program judges the files, with an empty input, and what it says is passed on. The result is its status.
+int judge(const std::string &program, const Files &files);
+
 }  // namespace analysis

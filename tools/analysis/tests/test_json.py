@@ -152,13 +152,13 @@ def test_opaque_blocks() -> None:
 @pytest.mark.parametrize("spec", ALL_SPECS, ids=lambda spec: spec.rsplit("/")[-1])
 def test_each_category(spec: str) -> None:
     """Made records of each category file."""
-    check([spec], made_records(spec, 0.02))
+    check([spec], made_records(spec, 0.01))
 
 
 @pytest.mark.parametrize("seed", range(4))
 def test_all_contents_and_widths(contents: str, seed: int) -> None:
     """Random numbers of many widths; texts with backslashes, quotes and control octets; repeated items in repeated items."""
-    check([contents], made_records(contents, 0.05, seed))
+    check([contents], made_records(contents, 0.02, seed))
 
 
 # Numbers of 64 bits near the places where rounding to 53 bits is decided: halves between two doubles, and just beside them.
@@ -169,7 +169,7 @@ EDGES += [(2**52 + odd) * 2**shift + off for odd in (1, 2, 3) for shift in (1, 5
 def test_decimals_are_the_nearest(contents: str) -> None:
     """Fractions with numerators and denominators above 2^53, by blocks that `build` makes."""
     chance = random.Random(5)
-    numbers = EDGES + [chance.getrandbits(64) for _ in range(300)]
+    numbers = EDGES + [chance.getrandbits(64) for _ in range(100)]
     lines = [
         f"block 250 {{ record {{ 020 {{ A {n} B {n} C {n} D {n} E {n % 65536} F {n} G {n} H {n % 256} }} }} }}" for n in numbers
     ]
@@ -196,7 +196,7 @@ def test_schema(words: list[str], contents: str) -> None:
         jsonschema.Draft202012Validator.check_schema(schema)
         validator = jsonschema.Draft202012Validator(schema)
         for spec in specs:
-            objects = objects_of(run(JSON, *words, *specs, given=made_records(spec, 0.01) + b"\x01\x00\x04\x00").stdout)
+            objects = objects_of(run(JSON, *words, *specs, given=made_records(spec, 0.004) + b"\x01\x00\x04\x00").stdout)
             assert len(objects) > 3
             for each in objects:
                 validator.validate(json.loads(json.dumps(each)))
@@ -230,29 +230,29 @@ LARGE_SPECS = [str(TOP / "samples/048-P1"), str(TOP / "samples/034-P1")]
 
 @pytest.fixture(scope="module")
 def large(tmp_path_factory: pytest.TempPathFactory) -> pathlib.Path:
-    """A recording of 1.5 MB."""
+    """A recording of 0.8 MB, which makes four pieces."""
     path = tmp_path_factory.mktemp("large") / "large.ast"
-    path.write_bytes(run("python3", str(TOP / "bench/make_stream.py"), "1.5").stdout)
-    assert path.stat().st_size > 1500000
+    path.write_bytes(run("python3", str(TOP / "bench/make_stream.py"), "0.8").stdout)
+    assert path.stat().st_size > 3 * 2**18
     return path
 
 
 @pytest.mark.parametrize("words", [[], ["--flat"], ["--exact"]], ids=" ".join)
-@pytest.mark.parametrize("jobs", [2, 3, 9])
+@pytest.mark.parametrize("jobs", [2, 9])
 def test_jobs_write_the_same(large: pathlib.Path, words: list[str], jobs: int) -> None:
     """Octet for octet, with the numbers of blocks of the whole."""
     alone = run(JSON, *words, *LARGE_SPECS, stdin=large)
     many = run(JSON, "--jobs", str(jobs), *words, *LARGE_SPECS, stdin=large)
     assert (alone.returncode, alone.stderr) == (many.returncode, many.stderr) == (0, b"")
     assert alone.stdout == many.stdout
-    assert objects_of(many.stdout)[-1]["block"] == len(blocks_of(large.read_bytes())) - 1
+    assert objects_of(many.stdout[-5000:].split(b"\n", 1)[1])[-1]["block"] == len(blocks_of(large.read_bytes())) - 1
 
 
 FAULTS = {"RunsOut": "30000680190c 300005 8019", "PresenceTooLong": "2200050101", "BadLen": "300003", "EndsInHeader": "30", "EndsInBlock": "30ffff00"}
 
 
 @pytest.mark.parametrize("fault", FAULTS)
-@pytest.mark.parametrize("at", [0, 100, 900000, 1500000])
+@pytest.mark.parametrize("at", [0, 400000, 800000])
 def test_jobs_end_at_the_same_fault(large: pathlib.Path, fault: str, at: int, tmp_path: pathlib.Path) -> None:
     """The program's own line and status; nothing after the fault, wherever it is."""
     front = b""
@@ -270,7 +270,7 @@ def test_jobs_end_at_the_same_fault(large: pathlib.Path, fault: str, at: int, tm
     assert listing.returncode == alone.returncode == many.returncode == 3
     assert listing.stderr == alone.stderr == many.stderr and fault.encode() in listing.stderr
     assert alone.stdout == many.stdout
-    assert alone.stdout.count(b"\n") == len(read_listing(listing.stdout)[0]) + len(read_listing(listing.stdout)[1])
+    assert alone.stdout.count(b"\n") == listing.stdout.count(b"\nrecord ")
 
 
 def test_jobs_of_an_empty_recording_and_of_a_pipe(large: pathlib.Path, tmp_path: pathlib.Path) -> None:

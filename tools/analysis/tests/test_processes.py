@@ -2,10 +2,10 @@
 
 import os
 import pathlib
-import resource
 import signal
 import subprocess
 import time
+from collections.abc import Callable
 
 import pytest
 from companions import JSON, PROGRAM, TOP, TURNS, TURNS_SPECS, blocks_of, run
@@ -13,23 +13,24 @@ from companions import JSON, PROGRAM, TOP, TURNS, TURNS_SPECS, blocks_of, run
 LIMIT = 30.0
 
 
-def children_of(process: int) -> list[int]:
-    """The processes whose parent this is."""
+def listers_of(process: int) -> list[int]:
+    """The runs of `show` whose parent this is."""
     found = []
     for folder in pathlib.Path("/proc").glob("[0-9]*"):
         try:
             parent = int((folder / "stat").read_text().rsplit(")", 1)[1].split()[1])
+            words = (folder / "cmdline").read_bytes().split(b"\0")
         except (OSError, IndexError):
             continue
-        if parent == process:
+        if parent == process and words[:2] == [PROGRAM.encode(), b"show"]:
             found.append(int(folder.name))
     return found
 
 
-def wait_until(holds: "object") -> None:
+def wait_until(holds: Callable[[], bool]) -> None:
     """Waits until something is so, but not for ever."""
     end = time.monotonic() + LIMIT
-    while not holds():  # type: ignore[operator]
+    while not holds():
         assert time.monotonic() < end
         time.sleep(0.01)
 
@@ -52,8 +53,8 @@ def test_no_child_is_left(number: signal.Signals) -> None:
     """A run that a signal ends takes its child with it."""
     process = started(*TURNS_SPECS)
     try:
-        wait_until(lambda: len(children_of(process.pid)) == 1)
-        (child,) = children_of(process.pid)
+        wait_until(lambda: len(listers_of(process.pid)) == 1)
+        (child,) = listers_of(process.pid)
         process.send_signal(number)
         process.wait(LIMIT)
         wait_until(lambda: not is_running(child))
@@ -81,18 +82,23 @@ def test_records_of_a_live_input() -> None:
 @pytest.mark.parametrize("jobs", [1, 4])
 def test_memory_is_flat(tmp_path: pathlib.Path, jobs: int) -> None:
     """Under 20 MB a job, whatever the recording's size. (The peak of a child counts too: it is the greater of the two.)"""
-    made = run("python3", str(TOP / "bench/make_stream.py"), "1").stdout
+    made = run("python3", str(TOP / "bench/make_stream.py"), "0.5").stdout
     path = tmp_path / "it.ast"
     path.write_bytes(made * 12)
     specs = [str(TOP / "samples/048-P1"), str(TOP / "samples/034-P1")]
-    # A shell starts it: the peak of a process counts what its memory was before exec.
+    # A small process starts it: the peak of a process counts what its memory was before exec.
     script = (
         "import os, sys\nchild = os.fork()\nif child == 0:\n    os.execv(sys.argv[1], sys.argv[1:])\n"
         "_, status, usage = os.wait4(child, 0)\nprint(status, usage.ru_maxrss, file=sys.stderr)\n"
     )
     with open(path, "rb") as source:
         done = subprocess.run(
-            ["python3", "-c", script, JSON, "--jobs", str(jobs), *specs], stdin=source, stdout=subprocess.DEVNULL, stderr=subprocess.PIPE, timeout=120, env={**os.environ, "ASTERIX": PROGRAM}
+            ["python3", "-c", script, JSON, "--jobs", str(jobs), *specs],
+            stdin=source,
+            stdout=subprocess.DEVNULL,
+            stderr=subprocess.PIPE,
+            timeout=120,
+            env={**os.environ, "ASTERIX": PROGRAM},
         )
     status, peak = map(int, done.stderr.split())
     assert status == 0 and peak < 20_000 * jobs
@@ -102,4 +108,3 @@ def test_no_room_for_a_process() -> None:
     """Where the program can't be started, that is said with status 4."""
     done = subprocess.run([JSON, *TURNS_SPECS], stdin=subprocess.DEVNULL, capture_output=True, timeout=60, env={**os.environ, "ASTERIX": "/nowhere/asterix"})
     assert (done.returncode, done.stdout, done.stderr) == (4, b"", b"asterix-json: asterix can't be run\n")
-    assert resource.getrusage(resource.RUSAGE_CHILDREN).ru_maxrss > 0

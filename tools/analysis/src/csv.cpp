@@ -37,17 +37,16 @@ public:
         constexpr std::size_t much = std::size_t{1} << 16;
         if (line.size() >= much) write();
     }
+    void write() {
+        if (!write_fully(file_.file(), line.data(), line.size())) throw system_failure(file_.name());
+        line.clear();
+    }
     const std::string &finish() {
-        write();
         file_.finish();
         return file_.name();
     }
 
 private:
-    void write() {
-        if (!write_fully(file_.file(), line.data(), line.size())) throw system_failure(file_.name());
-        line.clear();
-    }
     Unfinished file_;
 };
 
@@ -98,6 +97,8 @@ public:
     }
 
     std::vector<std::string> finish() override {
+        // All is written before the first file gets its name.
+        for (const auto &file : files_) file->write();
         std::vector<std::string> names;
         for (const auto &file : files_) names.push_back(file->finish());
         return names;

@@ -83,7 +83,8 @@ def rows_of(names: list[str], rows: list[tuple[Any, ...]]) -> dict[Key, Row]:
     made = {}
     for row in rows:
         values = dict(zip(names, row, strict=True))
-        made[tuple(values.pop(key) for key in keys)] = {name: value for name, value in values.items() if value is not None}
+        key = tuple(values.pop(name) for name in keys)
+        made[key] = {name: value for name, value in values.items() if value is not None}
     assert len(made) == len(rows)
     return made
 
@@ -109,23 +110,36 @@ def csv_rows(folder: pathlib.Path, base: str) -> dict[str, dict[Key, Row]]:
     return made
 
 
-def as_stored(rows: dict[str, dict[Key, Row]], wide: set[str], keeps_empty: bool) -> dict[str, dict[Key, Row]]:
+def as_stored(rows: dict[str, dict[Key, Row]], texts: set[tuple[str, str]], keeps_empty: bool) -> dict[str, dict[Key, Row]]:
     """As the columns have it: whole numbers above 63 bits as digits, and numbers in columns of texts too."""
     return {
         table: {
-            key: {
-                name: str(value) if name in wide else value for name, value in row.items() if keeps_empty or value != ""
-            }
+            key: {name: str(value) if (table, name) in texts else value for name, value in row.items() if keeps_empty or value != ""}
             for key, row in of.items()
         }
         for table, of in rows.items()
     }
 
 
-def text_columns(path: pathlib.Path) -> set[str]:
-    """The columns of texts."""
+def text_columns(path: pathlib.Path) -> set[tuple[str, str]]:
+    """The columns of texts, with their tables."""
     with sqlite3.connect(path) as database:
-        return {name for (name,) in database.execute("SELECT column_name FROM columns WHERE type = 'TEXT'")}
+        return set(database.execute("SELECT table_name, column_name FROM columns WHERE type = 'TEXT'"))
+
+
+def differences(found: dict[str, dict[Key, Row]], wanted: dict[str, dict[Key, Row]]) -> list[str]:
+    """The first few rows in which they differ. (pytest's own comparison of so many rows takes minutes.)"""
+    told = []
+    for table in sorted(found.keys() | wanted.keys()):
+        of, wanted_of = found.get(table, {}), wanted.get(table, {})
+        for key in sorted(of.keys() | wanted_of.keys()):
+            pair = of.get(key), wanted_of.get(key)
+            if pair[0] == pair[1]:
+                continue
+            row, wanted_row = pair[0] or {}, pair[1] or {}
+            names = [name for name in row.keys() | wanted_row.keys() if row.get(name) != wanted_row.get(name)]
+            told.append(f"{table} {key}: " + "; ".join(f"{name} {row.get(name)!r} not {wanted_row.get(name)!r}" for name in names[:3]))
+    return told[:5]
 
 
 def check(specs: list[str], recording: bytes, folder: pathlib.Path, *words: str) -> dict[str, dict[Key, Row]]:
@@ -136,8 +150,8 @@ def check(specs: list[str], recording: bytes, folder: pathlib.Path, *words: str)
         assert (done.returncode, done.stderr) == (0, b"")
         assert name == "it.csv" or done.stdout == b"it.sqlite\n"
     texts = text_columns(folder / "it.sqlite")
-    assert sqlite_rows(folder / "it.sqlite") == as_stored(wanted, texts, True)
-    assert csv_rows(folder, "it") == as_stored(wanted, texts, False)
+    assert differences(sqlite_rows(folder / "it.sqlite"), as_stored(wanted, texts, True)) == []
+    assert differences(csv_rows(folder, "it"), as_stored(wanted, texts, False)) == []
     assert sorted(each.name for each in folder.iterdir() if each.suffix == ".csv") == sorted(done.stdout.decode().split())
     return wanted
 

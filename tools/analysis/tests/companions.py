@@ -10,7 +10,9 @@ from fractions import Fraction
 
 TOP = pathlib.Path(__file__).resolve().parents[3]
 PROGRAM = os.environ.get("ASTERIX") or str(TOP / "crates/asterix/out/asterix")
-CUT, JSON, TABLE = (str(TOP / f"tools/asterix-{name}") for name in ("cut", "json", "table"))
+# $COMPANIONS may name a folder with others, such as those that are compiled with checks of memory.
+FOLDER = pathlib.Path(os.environ.get("COMPANIONS") or TOP / "tools").resolve()
+CUT, JSON, TABLE = (str(FOLDER / f"asterix-{name}") for name in ("cut", "json", "table"))
 TURNS = TOP / "docs/turns.ast"
 TURNS_SPECS = [str(TOP / "categories/048-1.31"), str(TOP / "categories/034-1.29")]
 ALL_SPECS = sorted(str(path) for path in (TOP / "categories").glob("[0-9]*"))

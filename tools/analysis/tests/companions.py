@@ -16,17 +16,17 @@ CUT, JSON, TABLE = (str(FOLDER / f"asterix-{name}") for name in ("cut", "json", 
 TURNS = TOP / "docs/turns.ast"
 TURNS_SPECS = [str(TOP / "categories/048-1.31"), str(TOP / "categories/034-1.29")]
 ALL_SPECS = sorted(str(path) for path in (TOP / "categories").glob("[0-9]*"))
+ENVIRONMENT = {**os.environ, "ASTERIX": PROGRAM}
 # A child that doesn't end is a fault of its own, and mustn't keep the tests from ending.
 LONGEST_RUN = 120
 
 
 def run(*words: str, given: bytes = b"", cwd: pathlib.Path | None = None, stdin: pathlib.Path | None = None) -> subprocess.CompletedProcess[bytes]:
     """A run of a command. Its standard input is `given` by a pipe, or the file `stdin`."""
-    environment = {**os.environ, "ASTERIX": PROGRAM}
     if stdin is None:
-        return subprocess.run(words, input=given, capture_output=True, cwd=cwd, env=environment, timeout=LONGEST_RUN)
+        return subprocess.run(words, input=given, capture_output=True, cwd=cwd, env=ENVIRONMENT, timeout=LONGEST_RUN)
     with open(stdin, "rb") as source:
-        return subprocess.run(words, stdin=source, capture_output=True, cwd=cwd, env=environment, timeout=LONGEST_RUN)
+        return subprocess.run(words, stdin=source, capture_output=True, cwd=cwd, env=ENVIRONMENT, timeout=LONGEST_RUN)
 
 
 def show(specs: list[str], recording: bytes) -> subprocess.CompletedProcess[bytes]:

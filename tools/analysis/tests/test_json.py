@@ -9,7 +9,7 @@ from typing import Any
 
 import jsonschema
 import pytest
-from companions import ALL_SPECS, CONTENTS, JSON, PROGRAM, TOP, TURNS, TURNS_SPECS, Leaf, Record, blocks_of, made_records, read_listing, run, show
+from companions import ALL_SPECS, CONTENTS, ENVIRONMENT, JSON, PROGRAM, TOP, TURNS, TURNS_SPECS, Leaf, Record, blocks_of, made_records, read_listing, run, show
 
 
 class Decimal(float):
@@ -305,7 +305,7 @@ def test_files_that_are_pipes() -> None:
 def test_output_that_cant_be_written(large: pathlib.Path, words: list[str]) -> None:
     """A full device and a closed pipe are named, with status 4."""
     with open(large, "rb") as source, open("/dev/full", "wb") as full:
-        done = subprocess.run([JSON, *words, *LARGE_SPECS], stdin=source, stdout=full, stderr=subprocess.PIPE, timeout=60)
+        done = subprocess.run([JSON, *words, *LARGE_SPECS], stdin=source, stdout=full, stderr=subprocess.PIPE, timeout=60, env=ENVIRONMENT)
     assert (done.returncode, done.stderr) == (4, b"asterix-json: standard output: No space left on device\n")
     command = f'"{JSON}" {" ".join(words + LARGE_SPECS)} | head -n 1; exit "${{PIPESTATUS[0]}}"'
     closed = run("bash", "-c", command, stdin=large)

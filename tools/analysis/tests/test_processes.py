@@ -8,7 +8,7 @@ import time
 from collections.abc import Callable
 
 import pytest
-from companions import JSON, PROGRAM, TOP, TURNS, TURNS_SPECS, blocks_of, run
+from companions import ENVIRONMENT, JSON, PROGRAM, TOP, TURNS, TURNS_SPECS, blocks_of, run
 
 LIMIT = 30.0
 
@@ -45,7 +45,7 @@ def is_running(process: int) -> bool:
 
 def started(*words: str) -> "subprocess.Popen[bytes]":
     """A run whose input stays open."""
-    return subprocess.Popen([JSON, *words], stdin=subprocess.PIPE, stdout=subprocess.PIPE, stderr=subprocess.PIPE, env={**os.environ, "ASTERIX": PROGRAM})
+    return subprocess.Popen([JSON, *words], stdin=subprocess.PIPE, stdout=subprocess.PIPE, stderr=subprocess.PIPE, env=ENVIRONMENT)
 
 
 @pytest.mark.parametrize("number", [signal.SIGTERM, signal.SIGKILL, signal.SIGINT])
@@ -98,7 +98,7 @@ def test_memory_is_flat(tmp_path: pathlib.Path, jobs: int) -> None:
             stdout=subprocess.DEVNULL,
             stderr=subprocess.PIPE,
             timeout=120,
-            env={**os.environ, "ASTERIX": PROGRAM},
+            env=ENVIRONMENT,
         )
     status, peak = map(int, done.stderr.split())
     assert status == 0 and peak < 20_000 * jobs
@@ -106,5 +106,5 @@ def test_memory_is_flat(tmp_path: pathlib.Path, jobs: int) -> None:
 
 def test_no_room_for_a_process() -> None:
     """Where the program can't be started, that is said with status 4."""
-    done = subprocess.run([JSON, *TURNS_SPECS], stdin=subprocess.DEVNULL, capture_output=True, timeout=60, env={**os.environ, "ASTERIX": "/nowhere/asterix"})
+    done = subprocess.run([JSON, *TURNS_SPECS], stdin=subprocess.DEVNULL, capture_output=True, timeout=60, env={**ENVIRONMENT, "ASTERIX": "/nowhere/asterix"})
     assert (done.returncode, done.stdout, done.stderr) == (4, b"", b"asterix-json: asterix can't be run\n")

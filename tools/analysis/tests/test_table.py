@@ -1,7 +1,6 @@
 """asterix-table against the program's listing, which a small reader of its own reads."""
 
 import csv
-import os
 import pathlib
 import re
 import resource
@@ -12,7 +11,7 @@ from typing import Any
 
 import pandas
 import pytest
-from companions import ALL_SPECS, PROGRAM, TABLE, TOP, TURNS, TURNS_SPECS, Leaf, Record, blocks_of, made_records, read_listing, run, show
+from companions import ALL_SPECS, ENVIRONMENT, PROGRAM, TABLE, TOP, TURNS, TURNS_SPECS, Leaf, Record, blocks_of, made_records, read_listing, run, show
 
 Row = dict[str, Any]
 Key = tuple[int, ...]
@@ -282,7 +281,7 @@ def test_a_full_device(name: str, tmp_path: pathlib.Path) -> None:
             capture_output=True,
             preexec_fn=small_files,
             timeout=60,
-            env={**os.environ, "ASTERIX": PROGRAM},
+            env=ENVIRONMENT,
         )
     assert done.returncode == 4 and done.stderr.startswith(b"asterix-table: it") and done.stdout == b""
     assert list(tmp_path.iterdir()) == []

@@ -6,7 +6,7 @@
 #include <charconv>
 #include <thread>
 
-#include "octets.hpp"
+#include "fail.hpp"
 #include "pieces.hpp"
 
 namespace analysis {
@@ -15,11 +15,6 @@ namespace {
 
 // A piece that has to wait for its turn keeps up to so many octets, and then its run of the program waits too.
 constexpr std::size_t most_kept = std::size_t{6} << 20;
-
-void write_out(std::string &text) {
-    if (!write_fully(STDOUT_FILENO, text.data(), text.size())) throw system_failure("standard output");
-    text.clear();
-}
 
 class AtOnce final : public Delivery {
 public:
@@ -55,35 +50,42 @@ std::string renumbered(std::string said, std::uint64_t first_block) {
     return said;
 }
 
-// One run over a file; `wait` is called before the last of its lines are written.
-template <class Wait>
-int convert_file(const std::string &program, const Files &files, JsonForm form, int file, std::uint64_t first_block, Delivery &delivery, Wait wait) {
-    Run run(program, "show", files.names(), file);
-    JsonSink sink(form, delivery);
-    Listing listing(run.output(), files.categories(), sink, first_block);
-    listing.read();
-    const int status = run.wait();
-    listing.finish(status == all_well || status == refused);
-    wait();
-    write_out(sink.rest());
-    pass_on(renumbered(run.said(), first_block));
-    return status;
-}
+// What runs, on which files and to which form; and a buffer that serves one run after another.
+class Converter {
+public:
+    Converter(const std::string &program, const Files &files, JsonForm form) : program_(program), files_(files), form_(form) {}
+
+    // One run over a file. Lines are made in `text`, which is empty at first, and are the result as far as they weren't delivered.
+    Result convert(int file, std::uint64_t first_block, Delivery &delivery, std::string text) {
+        Run run(program_, "show", files_.names(), file);
+        JsonSink sink(form_, delivery, text);
+        Listing listing(run.output(), buffer_, files_.categories(), sink, first_block);
+        listing.read();
+        const int status = run.wait();
+        listing.finish(status == all_well || status == refused);
+        return {std::move(text), renumbered(run.said(), first_block), status};
+    }
+
+private:
+    const std::string &program_;
+    const Files &files_;
+    JsonForm form_;
+    std::vector<char> buffer_;
+};
 
 struct Job {
-    const std::string &program;
-    const Files &files;
-    JsonForm form;
+    Converter converter;
     Pieces &pieces;
     Turns &turns;
 
-    void piece(const Piece &piece) const {
+    void piece(const Piece &piece) {
+        turns.begin(piece.index);
         InTurn delivery(turns, piece.index);
-        turns.pass(convert_file(program, files, form, piece.file, piece.first_block, delivery, [&] { turns.wait_for(piece.index); }));
+        turns.finish(piece.index, converter.convert(piece.file, piece.first_block, delivery, turns.spare_text()));
     }
 
     // Takes pieces until there are no more. A failure counts in its turn: what comes before it is written.
-    void operator()() const {
+    void operator()() {
         Piece next;
         try {
             while (!turns.has_stopped() && pieces.next(next)) {
@@ -106,13 +108,17 @@ struct Job {
 
 int convert(const std::string &program, const Files &files, JsonForm form) {
     AtOnce delivery;
-    return convert_file(program, files, form, STDIN_FILENO, 0, delivery, [] {});
+    Result result = Converter(program, files, form).convert(STDIN_FILENO, 0, delivery, {});
+    write_out(result.text);
+    pass_on(result.said);
+    return result.status;
 }
 
 int convert_in_jobs(const std::string &program, const Files &files, JsonForm form, unsigned jobs) {
     Pieces pieces(STDIN_FILENO);
-    Turns turns;
-    const Job job{program, files, form, pieces, turns};
+    // Where a piece takes longer than those behind it, these are kept until it is written.
+    Turns turns(2 * std::uint64_t{jobs});
+    const Job job{Converter(program, files, form), pieces, turns};
     std::vector<std::thread> threads;
     for (unsigned i = 0; i < jobs; ++i) threads.emplace_back(job);
     for (std::thread &thread : threads) thread.join();

@@ -27,7 +27,8 @@ void add_string(std::string &out, std::string_view text);
 
 class JsonSink final : public Sink {
 public:
-    JsonSink(JsonForm form, Delivery &delivery) : form_(form), delivery_(delivery) {}
+    // `out` is where lines are made, and is empty at first. It may serve one sink after another.
+    JsonSink(JsonForm form, Delivery &delivery, std::string &out) : form_(form), delivery_(delivery), out_(out) {}
 
     void opaque(std::uint64_t block, unsigned category, std::string_view hex) override;
     void begin_record(const Category &category, const Place &place) override;
@@ -41,9 +42,6 @@ public:
     void begin_occurrence(std::uint64_t) override {}
     void end_occurrence() override {}
     void pause() override { deliver_whole(); }
-
-    // Everything that is left.
-    std::string &rest() { return out_; }
 
 private:
     void key(const Node &node, std::string_view path);
@@ -64,7 +62,7 @@ private:
 
     JsonForm form_;
     Delivery &delivery_;
-    std::string out_;
+    std::string &out_;
     std::size_t record_begin_ = 0;
     bool is_in_record_ = false;
     // One for each object that is open; of the first `depth_` alone.

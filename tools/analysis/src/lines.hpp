@@ -10,8 +10,10 @@ namespace analysis {
 
 class Lines {
 public:
-    // `waits(self)` is called before a read that would have to wait.
-    Lines(int file, void (*waits)(void *), void *self) : file_(file), waits_(waits), self_(self), buffer_(room) {}
+    // `waits(self)` is called before a read that would have to wait. The buffer's octets don't matter; it may serve one reader after another.
+    Lines(int file, std::vector<char> &buffer, void (*waits)(void *), void *self) : file_(file), waits_(waits), self_(self), buffer_(buffer) {
+        buffer_.resize(room);
+    }
 
     // The next line without its line feed, which holds until the next call. False at the end; what has no line feed there is dropped.
     bool next(std::string_view &line) {
@@ -33,7 +35,7 @@ private:
     int file_;
     void (*waits_)(void *);
     void *self_;
-    std::vector<char> buffer_;
+    std::vector<char> &buffer_;
     std::size_t at_ = 0, end_ = 0;
 };
 

@@ -19,8 +19,11 @@ bool read_number(std::string_view &text, std::uint64_t &number) {
 
 }  // namespace
 
-Listing::Listing(int file, const Categories &categories, Sink &sink, std::uint64_t first_block)
-    : lines_(file, [](void *self) { static_cast<Sink *>(self)->pause(); }, &sink), categories_(categories), sink_(sink), first_block_(first_block) {}
+Listing::Listing(int file, std::vector<char> &buffer, const Categories &categories, Sink &sink, std::uint64_t first_block)
+    : lines_(file, buffer, [](void *self) { static_cast<Sink *>(self)->pause(); }, &sink),
+      categories_(categories),
+      sink_(sink),
+      first_block_(first_block) {}
 
 void Listing::unlike() const {
     throw Failure{outside_failed, "the listing isn't as the category files say, at block " + std::to_string(place_.block) + " record " +

@@ -41,8 +41,8 @@ public:
 
 class Listing {
 public:
-    // Blocks are numbered from `first_block` on.
-    Listing(int file, const Categories &categories, Sink &sink, std::uint64_t first_block);
+    // Blocks are numbered from `first_block` on. The buffer is for the lines.
+    Listing(int file, std::vector<char> &buffer, const Categories &categories, Sink &sink, std::uint64_t first_block);
 
     // Reads to the end. The last record stays open: finish() closes it if the listing is whole, or drops it.
     void read();

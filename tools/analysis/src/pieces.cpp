@@ -49,24 +49,66 @@ bool Pieces::next(Piece &piece) {
     return true;
 }
 
+void write_out(std::string &text) {
+    if (!write_fully(STDOUT_FILENO, text.data(), text.size())) throw system_failure("standard output");
+    text.clear();
+}
+
+template <class Holds>
+void Turns::wait(Holds holds) {
+    std::unique_lock<std::mutex> lock(mutex_);
+    changed_.wait(lock, [&] { return has_stopped_ || holds(); });
+    if (has_stopped_) throw Stopped{};
+}
+
+void Turns::begin(std::uint64_t index) {
+    wait([&] { return index < turn_ + most_; });
+}
+
+void Turns::wait_for(std::uint64_t index) {
+    wait([&] { return turn_ == index; });
+}
+
 bool Turns::is_turn_of(std::uint64_t index) {
     const std::lock_guard<std::mutex> lock(mutex_);
     if (has_stopped_) throw Stopped{};
     return turn_ == index;
 }
 
-void Turns::wait_for(std::uint64_t index) {
-    std::unique_lock<std::mutex> lock(mutex_);
-    changed_.wait(lock, [&] { return has_stopped_ || turn_ == index; });
-    if (has_stopped_) throw Stopped{};
+void Turns::write(Result &result) {
+    write_out(result.text);
+    pass_on(result.said);
+    spare_.push_back(std::move(result.text));
+    status_ = result.status;
+    has_stopped_ = result.status != 0;
 }
 
-void Turns::pass(int status) {
+void Turns::finish(std::uint64_t index, Result result) {
     const std::lock_guard<std::mutex> lock(mutex_);
-    ++turn_;
-    status_ = status;
-    has_stopped_ = status != 0;
+    finished_[index] = std::move(result);
+    try {
+        write_finished();
+    } catch (...) {
+        failure_ = std::current_exception();
+        has_stopped_ = true;
+    }
     changed_.notify_all();
+}
+
+void Turns::write_finished() {
+    for (auto first = finished_.begin(); !has_stopped_ && first != finished_.end() && first->first == turn_; first = finished_.begin()) {
+        write(first->second);
+        finished_.erase(first);
+        ++turn_;
+    }
+}
+
+std::string Turns::spare_text() {
+    const std::lock_guard<std::mutex> lock(mutex_);
+    if (spare_.empty()) return {};
+    std::string text = std::move(spare_.back());
+    spare_.pop_back();
+    return text;
 }
 
 void Turns::fail(std::exception_ptr failure) {

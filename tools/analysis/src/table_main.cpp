@@ -66,7 +66,8 @@ int run(Words &words) {
     const std::unique_ptr<Writer> writer = make(tables, asked.output, asked.forces);
     Run show(program, "show", files.names(), STDIN_FILENO);
     TableSink sink(tables, asked.form.has_numbers, *writer);
-    Listing listing(show.output(), files.categories(), sink, 0);
+    std::vector<char> buffer;
+    Listing listing(show.output(), buffer, files.categories(), sink, 0);
     listing.read();
     const int status = show.wait();
     // What stands before a fault of the recording is written; after any other end nothing is.

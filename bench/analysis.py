@@ -59,11 +59,23 @@ def rows_of(room: pathlib.Path, stream: pathlib.Path, large: pathlib.Path) -> li
     ]
 
 
-def line(row: bench.Row, times: list[float], peak: int) -> str:
+def peak(row: bench.Row) -> int:
+    """The greatest memory of a process of the command, in kB. A small process starts it and ends, since the peak of a process counts what
+    its memory was before exec; and a shell gives a command in the background an empty input, unless it is told otherwise."""
+    with open(row.input, "rb") as source:
+        file = source.fileno()
+        starter = ["bash", "-c", f'"$@" <&{file} {file}<&- &', "bash", *row.command]
+        subprocess.run(starter, pass_fds=[file], stdout=subprocess.DEVNULL, check=True)
+    _, status, usage = os.wait4(-1, 0)
+    bench.refuse(row, status)
+    return usage.ru_maxrss
+
+
+def line(row: bench.Row, times: list[float], most: int) -> str:
     """A row of the table."""
     median = statistics.median(times)
     spread = f"[{min(times):6.2f}..{max(times):6.2f}]"
-    return f"{row.name:15} {median:7.2f} {spread} {row.octets / median / 1e6:8.1f} {peak:8d}"
+    return f"{row.name:15} {median:7.2f} {spread} {row.octets / median / 1e6:8.1f} {most:8d}"
 
 
 def measure(asked: argparse.Namespace, room: pathlib.Path) -> None:
@@ -73,7 +85,7 @@ def measure(asked: argparse.Namespace, room: pathlib.Path) -> None:
     rows = rows_of(room, stream, repeated(made, asked.cut_mb, room / "large.ast"))
     print(f"{rows[0].octets} octets for cut, {stream.stat().st_size} for the others; {asked.rounds} rounds", flush=True)
     # The runs for the peaks come first, so that everything is compiled, and the inputs are in the kernel's memory.
-    peaks = {row.name: bench.peak(row) for row in rows}
+    peaks = {row.name: peak(row) for row in rows}
     times: dict[str, list[float]] = {row.name: [] for row in rows}
     for _ in range(asked.rounds):
         for row in rows:

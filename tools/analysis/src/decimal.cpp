@@ -32,9 +32,10 @@ double divided(Wide numerator, std::uint64_t denominator) {
 std::size_t read_digits(std::string_view text, Wide &number) {
     std::size_t at = 0;
     std::uint64_t small = 0;
-    for (; at < text.size() && at < 18 && text[at] >= '0' && text[at] <= '9'; ++at) small = small * 10 + static_cast<std::uint64_t>(text[at] - '0');
+    const auto is_digit = [&] { return at < text.size() && text[at] >= '0' && text[at] <= '9'; };
+    for (; at < 18 && is_digit(); ++at) small = small * 10 + static_cast<unsigned>(text[at] - '0');
     number = small;
-    for (; at < text.size() && at < 38 && text[at] >= '0' && text[at] <= '9'; ++at) number = number * 10 + static_cast<unsigned>(text[at] - '0');
+    for (; at < 38 && is_digit(); ++at) number = number * 10 + static_cast<unsigned>(text[at] - '0');
     return at;
 }
 

@@ -8,7 +8,9 @@ namespace analysis {
 
 namespace {
 
-bool begins(std::string_view text, std::string_view with) { return text.size() >= with.size() && std::memcmp(text.data(), with.data(), with.size()) == 0; }
+bool begins(std::string_view text, std::string_view with) {
+    return text.size() >= with.size() && std::memcmp(text.data(), with.data(), with.size()) == 0;
+}
 
 // The number at the front of a text. What is left of the text is behind it.
 bool read_number(std::string_view &text, std::uint64_t &number) {

@@ -154,7 +154,8 @@ def test_a_fault_of_framing(tail: str, words: list[str], tmp_path: pathlib.Path)
     assert (program.returncode, done.returncode) == (3, 3)
     line, place = done.stderr.decode().splitlines()
     assert line == program.stderr.decode().rstrip("\n")
-    assert place == f"  | block {len(blocks_of(recording))} begins at octet {TURNS.stat().st_size} of the recording; the pieces have the blocks before it"
+    number, offset = len(blocks_of(recording)), TURNS.stat().st_size
+    assert place == f"  | block {number} begins at octet {offset} of the recording; the pieces have the blocks before it"
     names = done.stdout.decode().split()
     assert len(names) == 2 and b"".join((tmp_path / name).read_bytes() for name in names) == TURNS.read_bytes()
 

@@ -9,7 +9,23 @@ from typing import Any
 
 import jsonschema
 import pytest
-from companions import ALL_SPECS, CONTENTS, ENVIRONMENT, JSON, PROGRAM, TOP, TURNS, TURNS_SPECS, Leaf, Record, blocks_of, made_records, read_listing, run, show
+from companions import (
+    ALL_SPECS,
+    CONTENTS,
+    ENVIRONMENT,
+    JSON,
+    PROGRAM,
+    TOP,
+    TURNS,
+    TURNS_SPECS,
+    Leaf,
+    Record,
+    blocks_of,
+    made_records,
+    read_listing,
+    run,
+    show,
+)
 
 
 class Decimal(float):

@@ -1,4 +1,4 @@
-# Completion of the options of asterix-pcap, asterix-net and asterix-replay. Made by tools/completion/make from tools/options.
+# Completion of the options of the programs beside asterix. Made by tools/completion/make from tools/options.
 complete -c asterix-net -f
 complete -c asterix-net -f -n __fish_use_subcommand -a 'receive --help'
 complete -c asterix-net -f -n __fish_use_subcommand -a 'send --help'
@@ -24,3 +24,18 @@ complete -c asterix-replay -l ttl -x -d 'how many routers may pass the datagrams
 complete -c asterix-replay -l interface -x -a '(__fish_print_interfaces)' -d 'send by this interface'
 complete -c asterix-replay -l no-loop -d 'this machine doesn\'t get what it sends to a group'
 complete -c asterix-replay -l help -d 'write this'
+complete -c asterix-cut -s n -x -d 'make so many pieces, of about as many octets each'
+complete -c asterix-cut -l octets -x -d 'make pieces of at most so many octets'
+complete -c asterix-cut -l list -d 'write no pieces, but the offset, the octets and the first block of each'
+complete -c asterix-cut -l force -d 'write over files that are there'
+complete -c asterix-cut -l help -d 'write this'
+complete -c asterix-json -l exact -d 'write the number of the bits of each element, and what it means exactly'
+complete -c asterix-json -l flat -d 'write the values of a record under their paths'
+complete -c asterix-json -l jobs -x -d 'read a recording with so many processors'
+complete -c asterix-json -l schema -d 'write a JSON Schema of the category files, and read no recording'
+complete -c asterix-json -l help -d 'write this'
+complete -c asterix-table -l path -x -d 'write what stands at this path or below it; several may follow'
+complete -c asterix-table -l numbers -d 'write the numbers of the bits'
+complete -c asterix-table -l force -d 'write over files that are there'
+complete -c asterix-table -s o -r -F -d 'write to FILE.sqlite, or to FILE.csv as a file a table'
+complete -c asterix-table -l help -d 'write this'

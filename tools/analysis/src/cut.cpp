@@ -15,8 +15,13 @@ namespace {
 const char usage[] =
     "asterix-cut RECORDING -n K [--list] [--force]\n"
     "asterix-cut RECORDING --octets N [--list] [--force]\n"
-    "  Writes pieces of whole data blocks in the current folder, RECORDING.000.ast and so on, and prints their names.\n"
-    "  RECORDING - is standard input. See asterix-cut(1).\n";
+    "Writes pieces of whole data blocks in the current folder, RECORDING.000.ast and so on, and prints their names.\n"
+    "RECORDING - is standard input.\n"
+    "  -n K            make so many pieces, of about as many octets each\n"
+    "      --octets N  make pieces of at most so many octets\n"
+    "      --list      write no pieces, but the offset, the octets and the first block of each\n"
+    "      --force     write over files that are there\n"
+    "      --help      write this\n";
 
 struct Asked {
     std::string recording;

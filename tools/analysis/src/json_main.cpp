@@ -16,7 +16,12 @@ namespace {
 const char usage[] =
     "asterix-json [--exact] [--flat] [--jobs K] SPEC... < RECORDING\n"
     "asterix-json --schema [--exact] [--flat] SPEC...\n"
-    "  Writes a line of JSON for each record, or their JSON Schema. See asterix-json(1).\n";
+    "Writes a line of JSON for each record, or a JSON Schema of them.\n"
+    "      --exact   write the number of the bits of each element, and what it means exactly\n"
+    "      --flat    write the values of a record under their paths\n"
+    "      --jobs K  read a recording with so many processors\n"
+    "      --schema  write a JSON Schema of the category files, and read no recording\n"
+    "      --help    write this\n";
 
 struct Asked {
     std::vector<std::string> files;

@@ -14,7 +14,12 @@ namespace {
 
 const char usage[] =
     "asterix-table SPEC... [--path PATH...] [--numbers] [--force] -o FILE < RECORDING\n"
-    "  Writes tables of the records: FILE.sqlite as one file, FILE.csv as FILE.048.csv and so on. See asterix-table(1).\n";
+    "Writes tables of the records: FILE.sqlite as one file, FILE.csv as FILE.048.csv and so on.\n"
+    "      --path PATH  write what stands at this path or below it; several may follow\n"
+    "      --numbers    write the numbers of the bits\n"
+    "      --force      write over files that are there\n"
+    "  -o FILE          write to FILE.sqlite, or to FILE.csv as a file a table\n"
+    "      --help       write this\n";
 
 struct Asked {
     std::vector<std::string> files;

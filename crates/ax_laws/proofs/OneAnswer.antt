@@ -20,41 +20,41 @@ use Rattle.ax_blocks.specs.Commands.{output_of, report_of}
 use Rattle.ax_blocks.specs.Ending.{longest_input}
 use Rattle.ax_words.proofs.Once.{once as shape_once}
 use Rattle.ax_app.proofs.GivenOnce.{line_ends_for_memory, line_ends_once}
-use Rattle.ax_app.proofs.Once.{does_once, IsGood, good_job}
-use Rattle.ax_app.specs.Answer.{Answer, by_words, by_files, by_refusal, by_job}
+use Rattle.ax_app.proofs.Once.{does_once, IsGood, good_task}
+use Rattle.ax_app.specs.Answer.{Answer, by_words, by_files, by_refusal, by_task}
 use Rattle.ax_app.specs.Given.{LineGives, LineEnds}
-use Rattle.ax_app.specs.Jobs.{CommandJob, writes, each_block, builds, salvages, refuses, JobAnswers}
 use Rattle.ax_app.specs.Running.{Does, StopsAtFiles}
 use Rattle.ax_app.specs.Salvages.{outcome_of_salvage}
+use Rattle.ax_app.specs.Tasks.{Task, writes, each_block, builds, salvages, refuses, TaskAnswers}
 
 none_rose : Rose 0 0 → ⊥
 none_rose (inl r) = omega arith
 none_rose (inr r) = omega arith
 
--- ---- jobs
+-- ---- tasks
 
 abbrev Same : Outcome → Outcome → List ℕ → List ℕ → List ℕ → List ℕ → Type 0
 Same outcome next written others reported more = (outcome ≡ next) × (written ≡ others) × (reported ≡ more)
 
-same_job : (job : CommandJob) (input : List ℕ) (outcome next : Outcome) (written others reported more : List ℕ) → IsGood job → JobAnswers job input outcome written reported → JobAnswers job input next others more → Same outcome next written others reported more
-same_job (writes count text) input outcome next written others reported more good h k = (h.done ∙ sym k.done, h.written_is ∙ sym k.written_is, h.reported_is ∙ sym k.reported_is)
-same_job (each_block c) input outcome next written others reported more good h k =
+same_task : (task : Task) (input : List ℕ) (outcome next : Outcome) (written others reported more : List ℕ) → IsGood task → TaskAnswers task input outcome written reported → TaskAnswers task input next others more → Same outcome next written others reported more
+same_task (writes count text) input outcome next written others reported more good h k = (h.done ∙ sym k.done, h.written_is ∙ sym k.written_is, h.reported_is ∙ sym k.reported_is)
+same_task (each_block c) input outcome next written others reported more good h k =
     let same : (h.end ≡ k.end) × (h.blocks ≡ k.blocks) = answers_once c longest_input input h.blocks k.blocks h.end k.end h.answers k.answers in
     (h.is ∙ ap outcome_of_end same.0 ∙ sym k.is, h.written_is ∙ ap (output_of c 0) same.1 ∙ sym k.written_is, h.reported_is ∙ ap (report_of c 0) same.1 ∙ sym k.reported_is)
-same_job (builds catalogue) input outcome next written others reported more good h k =
+same_task (builds catalogue) input outcome next written others reported more good h k =
     let same : (h.lines ≡ k.lines) × (h.answers ≡ k.answers) × (h.end ≡ k.end)
     = OfLines.answers_once (build_command catalogue) (build_once catalogue good) longest_line Lines.longest_input input h.lines k.lines h.answers k.answers h.end k.end h.ends k.ends in
     (h.is ∙ ap outcome_of_lines same.2 ∙ sym k.is, h.written_is ∙ ap LineAnswers.output_of same.1 ∙ sym k.written_is, h.reported_is ∙ sym k.reported_is)
-same_job (salvages catalogue) input outcome next written others reported more good h k =
+same_task (salvages catalogue) input outcome next written others reported more good h k =
     let same : (h.end ≡ k.end) × (written ≡ others) × (reported ≡ more) = salvaged_once catalogue input longest_input h.end k.end written others reported more h.salvaged k.salvaged in
     (h.is ∙ ap outcome_of_salvage same.0 ∙ sym k.is, same.1, same.2)
-same_job (refuses refusal) input outcome next written others reported more good h k = absurd h
+same_task (refuses refusal) input outcome next written others reported more good h k = absurd h
 
 refusal_once : (refusal next : Refusal) → refuses refusal ≡ refuses next → refusal ≡ next
 refusal_once refusal next e = cc
 
-refused_or_done : (words : List (List ℕ)) (files : List File) (input : List ℕ) (refusal : Refusal) (job : CommandJob) (outcome : Outcome) (written reported : List ℕ) → Does words (Some files) (refuses refusal) → Does words (Some files) job → JobAnswers job input outcome written reported → ⊥
-refused_or_done words files input refusal job outcome written reported d k h = subst (λ j. JobAnswers j input outcome written reported) (does_once words files job (refuses refusal) k d) h
+refused_or_done : (words : List (List ℕ)) (files : List File) (input : List ℕ) (refusal : Refusal) (task : Task) (outcome : Outcome) (written reported : List ℕ) → Does words (Some files) (refuses refusal) → Does words (Some files) task → TaskAnswers task input outcome written reported → ⊥
+refused_or_done words files input refusal task outcome written reported d k h = subst (λ j. TaskAnswers j input outcome written reported) (does_once words files task (refuses refusal) k d) h
 
 same_refusal : (words : List (List ℕ)) (files : List File) (refusal next : Refusal) (outcome other : Outcome) (written others reported more : List ℕ) → Does words (Some files) (refuses refusal) → Does words (Some files) (refuses next)
     → outcome ≡ outcome_of_refusal refusal → other ≡ outcome_of_refusal next → written ≡ others → reported ≡ more → (outcome ≡ other) × (written ≡ others) × (reported ≡ more)
@@ -71,8 +71,8 @@ same_files words files stop next outcome other written others reported more h k 
     let ends : LineEnds h.what (Some files) none_counted next = subst (λ v. LineEnds v (Some files) none_counted next) (sym same) k.ends in
     (is ∙ ap outcome_of_stop (line_ends_once h.what files none_counted stop next none_rose never nor h.ends ends) ∙ sym to, w, r)
 
-files_or_job : (words : List (List ℕ)) (files : List File) (stop : LoadStop) (job : CommandJob) → StopsAtFiles words (Some files) none_counted stop → (stop ≡ LoadStopOf.OutOfMemory → ⊥) → Does words (Some files) job → ⊥
-files_or_job words files stop job h never d =
+files_or_task : (words : List (List ℕ)) (files : List File) (stop : LoadStop) (task : Task) → StopsAtFiles words (Some files) none_counted stop → (stop ≡ LoadStopOf.OutOfMemory → ⊥) → Does words (Some files) task → ⊥
+files_or_task words files stop task h never d =
     let same = shape_once words d.what h.what d.shape h.shape in
     never (line_ends_for_memory h.what files none_counted d.given stop none_rose (subst (λ v. LineGives v (Some files) d.given) same d.give) h.ends)
 
@@ -83,18 +83,18 @@ pub one_answer : (words : List (List ℕ)) (files : List File) (input : List ℕ
 one_answer words files input outcome other written others reported more (by_words never is w r) (by_words also to w' r') = (is ∙ sym to, w ∙ sym w', r ∙ sym r')
 one_answer words files input outcome other written others reported more (by_words never is w r) (by_files stop h some to w' r') = absurd (never h.what h.shape)
 one_answer words files input outcome other written others reported more (by_words never is w r) (by_refusal f d to w' r') = absurd (never d.what d.shape)
-one_answer words files input outcome other written others reported more (by_words never is w r) (by_job job d h) = absurd (never d.what d.shape)
+one_answer words files input outcome other written others reported more (by_words never is w r) (by_task task d h) = absurd (never d.what d.shape)
 one_answer words files input outcome other written others reported more (by_files stop h some is w r) (by_words never to w' r') = absurd (never h.what h.shape)
 one_answer words files input outcome other written others reported more (by_files stop h some is w r) (by_files next k nor to w' r') = same_files words files stop next outcome other written others reported more h k some nor is to (w ∙ sym w') (r ∙ sym r')
-one_answer words files input outcome other written others reported more (by_files stop h some is w r) (by_refusal f k to w' r') = absurd (files_or_job words files stop (refuses f) h some k)
+one_answer words files input outcome other written others reported more (by_files stop h some is w r) (by_refusal f k to w' r') = absurd (files_or_task words files stop (refuses f) h some k)
 one_answer words files input outcome other written others reported more (by_refusal f d is w r) (by_words never to w' r') = absurd (never d.what d.shape)
-one_answer words files input outcome other written others reported more (by_refusal f d is w r) (by_files stop k some to w' r') = absurd (files_or_job words files stop (refuses f) k some d)
+one_answer words files input outcome other written others reported more (by_refusal f d is w r) (by_files stop k some to w' r') = absurd (files_or_task words files stop (refuses f) k some d)
 one_answer words files input outcome other written others reported more (by_refusal f d is w r) (by_refusal g k to w' r') = same_refusal words files f g outcome other written others reported more d k is to (w ∙ sym w') (r ∙ sym r')
-one_answer words files input outcome other written others reported more (by_refusal f d is w r) (by_job job k h) = absurd (refused_or_done words files input f job other others more d k h)
-one_answer words files input outcome other written others reported more (by_files stop h some is w r) (by_job job d k) = absurd (files_or_job words files stop job h some d)
-one_answer words files input outcome other written others reported more (by_job job d h) (by_words never to w' r') = absurd (never d.what d.shape)
-one_answer words files input outcome other written others reported more (by_job job d h) (by_files stop k some to w' r') = absurd (files_or_job words files stop job k some d)
-one_answer words files input outcome other written others reported more (by_job job d h) (by_refusal f k to w' r') = absurd (refused_or_done words files input f job outcome written reported k d h)
-one_answer words files input outcome other written others reported more (by_job job d h) (by_job next d' k) =
-    let same : next ≡ job = does_once words files next job d' d in
-    same_job job input outcome other written others reported more (good_job words (Some files) job d) h (subst (λ j. JobAnswers j input other others more) same k)
+one_answer words files input outcome other written others reported more (by_refusal f d is w r) (by_task task k h) = absurd (refused_or_done words files input f task other others more d k h)
+one_answer words files input outcome other written others reported more (by_files stop h some is w r) (by_task task d k) = absurd (files_or_task words files stop task h some d)
+one_answer words files input outcome other written others reported more (by_task task d h) (by_words never to w' r') = absurd (never d.what d.shape)
+one_answer words files input outcome other written others reported more (by_task task d h) (by_files stop k some to w' r') = absurd (files_or_task words files stop task k some d)
+one_answer words files input outcome other written others reported more (by_task task d h) (by_refusal f k to w' r') = absurd (refused_or_done words files input f task outcome written reported k d h)
+one_answer words files input outcome other written others reported more (by_task task d h) (by_task next d' k) =
+    let same : next ≡ task = does_once words files next task d' d in
+    same_task task input outcome other written others reported more (good_task words (Some files) task d) h (subst (λ j. TaskAnswers j input other others more) same k)

@@ -3,11 +3,12 @@ use Rattle.std.proofs.Common.{◌≡◌, ◌≢◌, ℕ, ◌<◌, ◌==◌, ◌�
 use Rattle.std.specs.List.{AllByRecursion}
 use Rattle.std.proofs.lemmas.Bool.{eqb-true, eqb-false}
 use Rattle.ax_app.proofs.FileNesting.{spec_named}
-use Rattle.ax_app.specs.Answer.{Answer, by_words, by_files, by_refusal, by_job}
+use Rattle.ax_app.specs.Answer.{Answer, by_words, by_files, by_refusal, by_task}
 use Rattle.ax_app.specs.Given.{Given, GivesExpansion, LineGives, LineEnds, in_specs, in_expansion, files_of, takes_distinct, expansion_of}
-use Rattle.ax_app.specs.Jobs.{CommandJob, writes, each_block, builds, salvages, refuses, check_text, help_text, version_text, show_command, text_command, filters, refused, IsEditionsJob, answers_each, other_category, OverEditions, IsExpandJob, expands, unused, of_another, IsJob}
+use Rattle.ax_app.specs.Rows.{check_text, help_text, version_text, show_command, text_command, filters, refused, IsEditionsTask, answers_each, other_category, OverEditions, IsExpandTask, expands, unused, of_another, IsTask}
 use Rattle.ax_app.specs.Running.{Does}
 use Rattle.ax_app.specs.Salvages.{outcome_of_salvage}
+use Rattle.ax_app.specs.Tasks.{Task, writes, each_block, builds, salvages, refuses}
 use Rattle.ax_bits.specs.Bits.{AreOctets}
 use Rattle.ax_blocks.specs.BlockCommands.{canon_command}
 use Rattle.ax_blocks.specs.Commands.{BlockCommand, output_of, report_of}
@@ -88,17 +89,17 @@ all_named : (specs : List SpecTree) → AllByRecursion IsGoodSpec specs → AllB
 all_named [] good = tt
 all_named (spec ∷ specs) good = ((good.0.0, good.0.1), all_named specs good.1)
 
--- ---- the job
+-- ---- the task
 
-abbrev IsClean : CommandJob → Type 0
+abbrev IsClean : Task → Type 0
 IsClean (writes count text) = Unit {0}
 IsClean (each_block c) = AllByRecursion NoFlaw c.catalogue
 IsClean (builds catalogue) = AllByRecursion (λ spec. NoFlaw spec × IsNamed spec) catalogue
 IsClean (salvages catalogue) = AllByRecursion NoFlaw catalogue
 IsClean (refuses refusal) = Unit {0}
 
-abbrev HasJob : Line → List SpecTree → Option ExpansionTree → Type 0
-HasJob what specs expansion = (job : CommandJob) × IsJob what (record { specs = specs; expansion = expansion }) job × IsClean job
+abbrev HasTask : Line → List SpecTree → Option ExpansionTree → Type 0
+HasTask what specs expansion = (task : Task) × IsTask what (record { specs = specs; expansion = expansion }) task × IsClean task
 
 same_or_other : (n m : ℕ) → (n ≡ m) ⊎ (n ≡ m → ⊥)
 same_or_other n m = by (n == m) refl
@@ -107,54 +108,54 @@ same_or_other n m = by (n == m) refl
     by true e = inl (eqb-true n m e)
     by false e = inr (eqb-false n m e)
 
-filter_job : (expression : List ℕ) (files : List (List ℕ)) (specs : List SpecTree) (expansion : Option ExpansionTree) → AllByRecursion IsGoodSpec specs → FilterOrRefused specs expression → HasJob (Filter expression files) specs expansion
-filter_job expression files specs expansion good (inl (e, h)) = (each_block (filter_command e specs), filters e h refl, all_clean specs good)
-filter_job expression files specs expansion good (inr (fault, h)) = (refuses (FilterRefused fault), refused fault h refl, tt)
+filter_task : (expression : List ℕ) (files : List (List ℕ)) (specs : List SpecTree) (expansion : Option ExpansionTree) → AllByRecursion IsGoodSpec specs → FilterOrRefused specs expression → HasTask (Filter expression files) specs expansion
+filter_task expression files specs expansion good (inl (e, h)) = (each_block (filter_command e specs), filters e h refl, all_clean specs good)
+filter_task expression files specs expansion good (inr (fault, h)) = (refuses (FilterRefused fault), refused fault h refl, tt)
 
-editions_job : (command : SpecTree → SpecTree → BlockCommand) (old new : SpecTree) → AllByRecursion NoFlaw (command old new).catalogue → (old.category ≡ new.category) ⊎ (old.category ≡ new.category → ⊥) → (job : CommandJob) × IsEditionsJob command old new job × IsClean job
-editions_job command old new clean (inl same) = (each_block (command old new), answers_each same refl, clean)
-editions_job command old new clean (inr differs) = (refuses (OtherCategory old.category new.category), other_category differs refl, tt)
+editions_task : (command : SpecTree → SpecTree → BlockCommand) (old new : SpecTree) → AllByRecursion NoFlaw (command old new).catalogue → (old.category ≡ new.category) ⊎ (old.category ≡ new.category → ⊥) → (task : Task) × IsEditionsTask command old new task × IsClean task
+editions_task command old new clean (inl same) = (each_block (command old new), answers_each same refl, clean)
+editions_task command old new clean (inr differs) = (refuses (OtherCategory old.category new.category), other_category differs refl, tt)
 
-expand_job : (spec : SpecTree) (x : ExpansionTree) → NoFlaw spec → (spec.category ≡ x.category) ⊎ (spec.category ≡ x.category → ⊥) → (o : Option ℕ) → re_frn spec ≡ o → (job : CommandJob) × IsExpandJob spec x job × IsClean job
-expand_job spec x clean (inl same) (Some frn) e = (each_block (expand_command spec frn x), expands same frn e refl, (clean, tt))
-expand_job spec x clean (inl same) None e = (refuses (ExpansionUnused spec.category), unused same e refl, tt)
-expand_job spec x clean (inr differs) o e = (refuses (OtherCategory spec.category x.category), of_another differs refl, tt)
+expand_task : (spec : SpecTree) (x : ExpansionTree) → NoFlaw spec → (spec.category ≡ x.category) ⊎ (spec.category ≡ x.category → ⊥) → (o : Option ℕ) → re_frn spec ≡ o → (task : Task) × IsExpandTask spec x task × IsClean task
+expand_task spec x clean (inl same) (Some frn) e = (each_block (expand_command spec frn x), expands same frn e refl, (clean, tt))
+expand_task spec x clean (inl same) None e = (refuses (ExpansionUnused spec.category), unused same e refl, tt)
+expand_task spec x clean (inr differs) o e = (refuses (OtherCategory spec.category x.category), of_another differs refl, tt)
 
 -- of a line that takes two editions
 two_specs : (command : SpecTree → SpecTree → BlockCommand) → ((old new : SpecTree) → (command old new).catalogue ≡ old ∷ []) → (files : Option (List File)) (first second : List ℕ) (specs : List SpecTree) → EachGives files (first ∷ second ∷ []) specs → AllByRecursion IsGoodSpec specs
-    → (job : CommandJob) × OverEditions command specs job × IsClean job
+    → (task : Task) × OverEditions command specs task × IsClean task
 two_specs command under files first second [] gives good = absurd gives
 two_specs command under files first second (old ∷ []) gives good = absurd gives.1
 two_specs command under files first second (old ∷ new ∷ []) gives good =
-    let j = editions_job command old new (subst (AllByRecursion NoFlaw) (sym (under old new)) (good.0.0, tt)) (same_or_other old.category new.category) in
+    let j = editions_task command old new (subst (AllByRecursion NoFlaw) (sym (under old new)) (good.0.0, tt)) (same_or_other old.category new.category) in
     (j.0, record { old = old; new = new; two = refl; is = j.1 }, j.2)
 two_specs command under files first second (old ∷ new ∷ more ∷ specs) gives good = absurd gives.1.1
 
 -- one row for each command
-job_there : (what : Line) (files : List File) (specs : List SpecTree) (expansion : Option ExpansionTree) → IsInBounds what → EachGives (Some files) (files_of what) specs → GivesExpansion (expansion_of what) (Some files) expansion → AllByRecursion IsGoodSpec specs
-    → HasJob what specs expansion
-job_there (Check file) files [] expansion bounds gives more good = absurd gives
-job_there (Check file) files (spec ∷ []) expansion bounds gives more good = (writes 0 (check_text spec), record { spec = spec; one = refl; is = refl }, tt)
-job_there (Check file) files (spec ∷ other ∷ specs) expansion bounds gives more good = absurd gives.1
-job_there (Canon names) files specs expansion bounds gives more good = (each_block (canon_command specs), refl, all_clean specs good)
-job_there (Show names) files specs expansion bounds gives more good = (each_block (show_command specs), refl, all_clean specs good)
-job_there (Text names) files specs expansion bounds gives more good = (each_block (text_command specs), refl, all_clean specs good)
-job_there (Build names) files specs expansion bounds gives more good = (builds specs, refl, all_named specs good)
-job_there (Filter expression names) files specs expansion bounds gives more good = filter_job expression names specs expansion good (filter_or_refused specs expression)
-job_there (Migrate old new) files specs expansion bounds gives more good = two_specs migrate_command (λ a b. refl) (Some files) old new specs gives good
-job_there (Trial file seed count) files [] expansion bounds gives more good = absurd gives
-job_there (Trial file seed count) files (spec ∷ []) expansion bounds gives more good =
-    let t = trial_there spec good.0.0 good.0.2 seed count bounds.1 in (writes count t.0, record { spec = spec; one = refl; line = t.0; trial = t.1; is = refl }, tt)
-job_there (Trial file seed count) files (spec ∷ other ∷ specs) expansion bounds gives more good = absurd gives.1
-job_there (Salvage names) files specs expansion bounds gives more good = (salvages specs, refl, all_clean specs good)
-job_there (Expand file name) files [] expansion bounds gives more good = absurd gives
-job_there (Expand file name) files (spec ∷ []) (Some x) bounds gives more good =
-    let j = expand_job spec x good.0.0 (same_or_other spec.category x.category) (re_frn spec) refl in (j.0, record { spec = spec; x = x; one = refl; expansion = refl; is = j.1 }, j.2)
-job_there (Expand file name) files (spec ∷ []) None bounds gives more good = absurd more
-job_there (Expand file name) files (spec ∷ other ∷ specs) expansion bounds gives more good = absurd gives.1
-job_there (Convert old new) files specs expansion bounds gives more good = two_specs convert_command (λ a b. refl) (Some files) old new specs gives good
-job_there Help files specs expansion bounds gives more good = (writes 0 help_text, refl, tt)
-job_there Version files specs expansion bounds gives more good = (writes 0 version_text, refl, tt)
+task_there : (what : Line) (files : List File) (specs : List SpecTree) (expansion : Option ExpansionTree) → IsInBounds what → EachGives (Some files) (files_of what) specs → GivesExpansion (expansion_of what) (Some files) expansion → AllByRecursion IsGoodSpec specs
+    → HasTask what specs expansion
+task_there (Check file) files [] expansion bounds gives more good = absurd gives
+task_there (Check file) files (spec ∷ []) expansion bounds gives more good = (writes 0 (check_text spec), record { spec = spec; one = refl; is = refl }, tt)
+task_there (Check file) files (spec ∷ other ∷ specs) expansion bounds gives more good = absurd gives.1
+task_there (Canon names) files specs expansion bounds gives more good = (each_block (canon_command specs), refl, all_clean specs good)
+task_there (Show names) files specs expansion bounds gives more good = (each_block (show_command specs), refl, all_clean specs good)
+task_there (Text names) files specs expansion bounds gives more good = (each_block (text_command specs), refl, all_clean specs good)
+task_there (Build names) files specs expansion bounds gives more good = (builds specs, refl, all_named specs good)
+task_there (Filter expression names) files specs expansion bounds gives more good = filter_task expression names specs expansion good (filter_or_refused specs expression)
+task_there (Migrate old new) files specs expansion bounds gives more good = two_specs migrate_command (λ a b. refl) (Some files) old new specs gives good
+task_there (Trial file seed count) files [] expansion bounds gives more good = absurd gives
+task_there (Trial file seed count) files (spec ∷ []) expansion bounds gives more good =
+    let t = trial_there spec good.0.0 good.0.2 seed count bounds.1 in (writes count t.0, record { spec = spec; one = refl; is = record { line = t.0; trial = t.1; is = refl } }, tt)
+task_there (Trial file seed count) files (spec ∷ other ∷ specs) expansion bounds gives more good = absurd gives.1
+task_there (Salvage names) files specs expansion bounds gives more good = (salvages specs, refl, all_clean specs good)
+task_there (Expand file name) files [] expansion bounds gives more good = absurd gives
+task_there (Expand file name) files (spec ∷ []) (Some x) bounds gives more good =
+    let j = expand_task spec x good.0.0 (same_or_other spec.category x.category) (re_frn spec) refl in (j.0, record { spec = spec; x = x; one = refl; expansion = refl; is = j.1 }, j.2)
+task_there (Expand file name) files (spec ∷ []) None bounds gives more good = absurd more
+task_there (Expand file name) files (spec ∷ other ∷ specs) expansion bounds gives more good = absurd gives.1
+task_there (Convert old new) files specs expansion bounds gives more good = two_specs convert_command (λ a b. refl) (Some files) old new specs gives good
+task_there Help files specs expansion bounds gives more good = (writes 0 help_text, refl, tt)
+task_there Version files specs expansion bounds gives more good = (writes 0 version_text, refl, tt)
 
 -- ---- the answer
 
@@ -162,24 +163,24 @@ abbrev HasAnswer : List (List ℕ) → List File → List ℕ → Type 0
 HasAnswer words files input = (outcome : Outcome) × (written : List ℕ) × (reported : List ℕ) × Answer words files input outcome written reported
 
 module _ (words : List (List ℕ)) (files : List File) (input : List ℕ) (are : AreOctets input) where
-  by_its_job : (job : CommandJob) → Does words (Some files) job → IsClean job → HasAnswer words files input
-  by_its_job (writes count text) does clean = (Done count, text, [], by_job (writes count text) does (record { done = refl; written_is = refl; reported_is = refl }))
-  by_its_job (each_block c) does clean =
+  by_its_task : (task : Task) → Does words (Some files) task → IsClean task → HasAnswer words files input
+  by_its_task (writes count text) does clean = (Done count, text, [], by_task (writes count text) does (record { done = refl; written_is = refl; reported_is = refl }))
+  by_its_task (each_block c) does clean =
       let s = stream_there c longest_input input are clean in
-      (outcome_of_end s.1, output_of c 0 s.0, report_of c 0 s.0, by_job (each_block c) does (record { blocks = s.0; end = s.1; answers = s.2; is = refl; written_is = refl; reported_is = refl }))
-  by_its_job (builds catalogue) does clean =
+      (outcome_of_end s.1, output_of c 0 s.0, report_of c 0 s.0, by_task (each_block c) does (record { blocks = s.0; end = s.1; answers = s.2; is = refl; written_is = refl; reported_is = refl }))
+  by_its_task (builds catalogue) does clean =
       let l = lines_there (build_command catalogue) longest_line LinesEnding.longest_input input (λ number line. line_answered catalogue clean line) in
-      (outcome_of_lines l.2, Lines.output_of l.1, [], by_job (builds catalogue) does (record { lines = l.0; answers = l.1; end = l.2; ends = l.3; is = refl; written_is = refl; reported_is = refl }))
-  by_its_job (salvages catalogue) does clean =
+      (outcome_of_lines l.2, Lines.output_of l.1, [], by_task (builds catalogue) does (record { lines = l.0; answers = l.1; end = l.2; ends = l.3; is = refl; written_is = refl; reported_is = refl }))
+  by_its_task (salvages catalogue) does clean =
       let s = (one_salvage catalogue input longest_input are clean).some in
-      (outcome_of_salvage s.0, s.1, s.2, by_job (salvages catalogue) does (record { end = s.0; salvaged = s.3; is = refl }))
-  by_its_job (refuses refusal) does clean = (outcome_of_refusal refusal, [], [], by_refusal refusal does refl refl refl)
+      (outcome_of_salvage s.0, s.1, s.2, by_task (salvages catalogue) does (record { end = s.0; salvaged = s.3; is = refl }))
+  by_its_task (refuses refusal) does clean = (outcome_of_refusal refusal, [], [], by_refusal refusal does refl refl refl)
 
   by_its_files : (what : Line) → HasShape words what → GiveOrEndLine what files → HasAnswer words files input
   by_its_files what shape (inl (given, give)) =
       let good = good_specs (Some files) (files_of what) given.specs give.specs.each in
-      let j = job_there what files given.specs given.expansion shape.in_bounds give.specs.each give.expansion good in
-      by_its_job j.0 (record { what = what; shape = shape; given = given; give = give; is = j.1 }) j.2
+      let j = task_there what files given.specs given.expansion shape.in_bounds give.specs.each give.expansion good in
+      by_its_task j.0 (record { what = what; shape = shape; given = given; give = give; is = j.1 }) j.2
   by_its_files what shape (inr (stop, ends, never)) = (outcome_of_stop stop, [], [], by_files stop (record { what = what; shape = shape; ends = ends }) never refl refl refl)
 
   by_its_words : ((what : Line) × HasShape words what) ⊎ HasNoShape words → HasAnswer words files input

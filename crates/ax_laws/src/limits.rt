@@ -1,7 +1,6 @@
 //! What one definition alone says, said a second time: the limits in plain numbers, which commands may end for want of memory once
 //! they have read, and what single fields of larger records promise. Each function stands for what its contract says.
 ghost use Rattle.std.specs.Prelude.{◌≡◌, ℕ, ◌<◌, ◌≤◌, List, length, codes, [], ◌∷◌, Ok, Err};
-ghost use Rattle.ax_app.specs.Jobs.{IsReady};
 ghost use Rattle.ax_app.specs.Running.{TakesMemory};
 ghost use Rattle.ax_blocks.specs.Taking.{IsUnfinished};
 ghost use Rattle.ax_app.specs.Ends.{IsOfMigration};
@@ -27,16 +26,12 @@ pub fn longest_inputs()
     ensures block { longest_block ≡ 65535 }
 {}
 
-/// An expression of `filter` has at most 2^31 octets, for the words that have a shape and for the job over its files alike.
+/// An expression of `filter` has at most 2^31 octets. The words that have a shape keep to it, and so does the task, which takes these words.
 pub fn longest_expression()
     ensures of_words { (expression : List ℕ) (files : List (List ℕ)) → length expression ≤ 2147483648 → 0 < length files
         → IsInBounds (LineOf.Filter expression files) }
     ensures words_most { (expression : List ℕ) (files : List (List ℕ)) → IsInBounds (LineOf.Filter expression files)
         → length expression ≤ 2147483648 }
-    ensures of_job { (expression : List ℕ) (files : List (List ℕ)) (specs : List SpecTree) → length expression ≤ 2147483648
-        → IsReady (LineOf.Filter expression files) specs }
-    ensures job_most { (expression : List ℕ) (files : List (List ℕ)) (specs : List SpecTree)
-        → IsReady (LineOf.Filter expression files) specs → length expression ≤ 2147483648 }
 {}
 
 /// The width of an element has at most nine digits.

@@ -17,7 +17,7 @@ def copied(tmp_path: pathlib.Path) -> pathlib.Path:
     """A copy of the tools without what was compiled."""
     shutil.copytree(TOP / "tools/analysis", tmp_path / "tools/analysis", ignore=shutil.ignore_patterns("out", "__pycache__"))
     for name in ("cut", "table"):
-        (tmp_path / f"tools/asterix-{name}").symlink_to("analysis/launch")
+        shutil.copy(TOP / f"tools/asterix-{name}", tmp_path / "tools")
     (tmp_path / "bin").mkdir()
     for name in NEEDED:
         found = shutil.which(name, path="/usr/bin:/bin")

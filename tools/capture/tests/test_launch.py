@@ -15,7 +15,7 @@ def tools(tmp_path: pathlib.Path) -> pathlib.Path:
     tools = tmp_path / "tools"
     shutil.copytree(TOP / "tools/capture", tools / "capture", ignore=shutil.ignore_patterns("out", "tests"))
     for name in ("pcap", "net", "replay"):
-        (tools / f"asterix-{name}").symlink_to("capture/launch")
+        shutil.copy(TOP / f"tools/asterix-{name}", tools)
     commands = tmp_path / "commands"
     commands.mkdir()
     for name in ("bash", "dirname", "readlink", "find", "mkdir", "flock"):

@@ -1,5 +1,6 @@
 pub mod Absent
 pub mod AlikeExamples
+pub mod CommandTable
 pub mod ConversionExamples
 pub mod ExpandedExamples
 pub mod FilterExamples

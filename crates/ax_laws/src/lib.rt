@@ -6,6 +6,7 @@
 pub mod answers;
 pub mod block_reader;
 pub mod build;
+pub mod commands;
 pub mod conversions;
 pub mod convert;
 pub mod edition_examples;

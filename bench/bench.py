@@ -119,7 +119,7 @@ def peak(row):
     In the peak of a process the kernel counts what its memory was before exec, which would be this interpreter's. So a
     shell starts the command as a process of its own and ends, and this process, which takes in orphans, waits for it."""
     with open(row.input, "rb") as source:
-        starter = ["sh", "-c", '"$@" <&0 &', "sh", *row.command]
+        starter = ["sh", "-c", 'exec 3<&0; "$@" <&3 3<&- &', "sh", *row.command]
         subprocess.run(starter, stdin=source, stdout=subprocess.DEVNULL, stderr=subprocess.DEVNULL, check=True)
     _, status, usage = os.wait4(-1, 0)
     refuse(row, status)

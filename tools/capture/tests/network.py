@@ -7,8 +7,11 @@ the administrator, or a namespace of users in which they have them (.ci/captures
 import contextlib
 import ctypes
 import ipaddress
+import json
 import os
 import pathlib
+import re
+import select
 import signal
 import socket
 import struct
@@ -43,10 +46,24 @@ class Namespace:
         for process in self.started:
             process.kill()
             process.wait()
+        # What these had started, as the parts of a gateway, is still in the namespace if a trial failed.
+        for number in self.inside():
+            with contextlib.suppress(ProcessLookupError):
+                os.kill(number, signal.SIGKILL)
+        for process in self.started:
             for stream in (process.stdin, process.stdout, process.stderr):
                 with contextlib.suppress(BrokenPipeError):
                     stream and stream.close()
         self.holder.communicate()
+
+    def inside(self) -> list[int]:
+        """The processes in the namespace, but for the one that holds it."""
+        found = []
+        for entry in pathlib.Path("/proc").glob("[0-9]*"):
+            with contextlib.suppress(OSError):
+                if os.readlink(entry / "ns/net") == os.readlink(self.path) and int(entry.name) != self.holder.pid:
+                    found.append(int(entry.name))
+        return found
 
     def words(self, *words: str | pathlib.Path) -> list[str]:
         return ["nsenter", f"--net={self.path}", *map(str, words)]
@@ -63,8 +80,9 @@ class Namespace:
 
     def receive(self, at: str, *words: str | pathlib.Path, **streams: object) -> subprocess.Popen[bytes]:
         """Starts `asterix-net receive`, and waits until it receives."""
+        before = members(self.holder.pid, at)
         process = self.start("net", "receive", at, *words, **streams)
-        until(lambda: receives(process, at))
+        until(lambda: receives(process, at, before))
         return process
 
     def run(self, program: str, *words: str | pathlib.Path, given: bytes = b"") -> tuple[int, bytes, list[str]]:
@@ -100,6 +118,7 @@ class Namespace:
             self.ip("link", "set", one, "up", "multicast", "on")
         for address in addresses:
             self.ip("addr", "add", address, "dev", name, *(["nodad"] if ":" in address else []))
+        until(self.is_up)
 
     def join(self, other: "Namespace", name: str, own: str, others: str) -> None:
         """An interface of this name in both namespaces, each with an address, which lead to each other."""
@@ -107,6 +126,12 @@ class Namespace:
         for it, address in ((self, own), (other, others)):
             it.ip("addr", "add", address, "dev", name)
             it.ip("link", "set", name, "up")
+        until(lambda: self.is_up() and other.is_up())
+
+    def is_up(self) -> bool:
+        """Whether each interface sends what it is given: the kernel takes up to a second for that after both ends are set up."""
+        told = subprocess.run(self.words("ip", "-json", "link"), check=True, capture_output=True, timeout=HANGS).stdout
+        return all(it["qdisc"] != "noop" and it["operstate"] == "UP" for it in json.loads(told) if it["ifname"] != "lo")
 
 
 def until(holds: Callable[[], bool]) -> None:
@@ -117,16 +142,23 @@ def until(holds: Callable[[], bool]) -> None:
         time.sleep(0.01)
 
 
-def receives(process: subprocess.Popen[bytes], at: str) -> bool:
-    """Whether a socket has the address, in the namespace of a process, and is in its group; or the process has ended."""
-    if process.poll() is not None:
-        return True
+def members(number: int, at: str) -> int:
+    """How many sockets are bound to the address, or have joined the group, in the namespace of a process."""
     host, _, port = at.rpartition(":")
     address = ipaddress.ip_address(host.strip("[]"))
-    tables = {name: (pathlib.Path(f"/proc/{process.pid}/net") / name).read_text().lower() for name in ("udp", "udp6", "igmp", "igmp6")}
-    is_bound = f":{int(port):04x} " in tables["udp"] + tables["udp6"]
+    tables = {name: (pathlib.Path(f"/proc/{number}/net") / name).read_text().lower() for name in ("udp", "udp6", "igmp", "igmp6")}
+    bound = (tables["udp"] + tables["udp6"]).count(f":{int(port):04x} ")
+    if not address.is_multicast:
+        return bound
+    # A line of igmp begins with the group, one of igmp6 with the interface; then come the sockets that have joined.
     group = address.packed[::-1].hex() if address.version == 4 else address.packed.hex()
-    return is_bound and (not address.is_multicast or group in tables["igmp"] + tables["igmp6"])
+    joined = re.findall(rf"\b{group}\s+(\d+)", tables["igmp"] + tables["igmp6"])
+    return min(bound, sum(map(int, joined)))
+
+
+def receives(process: subprocess.Popen[bytes], at: str, before: int = 0) -> bool:
+    """Whether more sockets than before receive at the address, in the namespace of a process; or the process has ended."""
+    return process.poll() is not None or members(process.pid, at) > before
 
 
 def stopped(process: subprocess.Popen[bytes], number: int = signal.SIGTERM) -> tuple[int, bytes, list[str]]:
@@ -148,6 +180,7 @@ def read(stream: IO[bytes], count: int) -> bytes:
     """So many octets of a pipe, as soon as they are there."""
     found = b""
     while len(found) < count:
+        assert select.select([stream], [], [], SOON)[0], f"no more came after {len(found)} octets of {count}"
         octets = os.read(stream.fileno(), count - len(found))
         assert octets, f"it ended after {len(found)} octets of {count}"
         found += octets

@@ -1,10 +1,14 @@
 """The programs that the tests start are compiled once, before the first of them."""
 
 import pathlib
+import signal
 import subprocess
 
 import companions
 import pytest
+
+# A shell starts what it runs in the background with SIGINT ignored, and a program inherits that. Here it is as at a terminal.
+signal.signal(signal.SIGINT, signal.default_int_handler)
 
 
 @pytest.fixture(scope="session", autouse=True)
